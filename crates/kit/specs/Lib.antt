@@ -1,0 +1,2 @@
+-- What the contracts of kit words cite.
+pub mod Kit

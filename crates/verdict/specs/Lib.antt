@@ -1,0 +1,4 @@
+-- What the contracts of every crate cite of refusals.
+pub mod First
+pub mod Rules
+pub mod Families

@@ -1,0 +1,3 @@
+-- Laws of tables.
+pub mod TableLaws
+pub mod Soundings

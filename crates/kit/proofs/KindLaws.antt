@@ -12,7 +12,7 @@ use lib.Arith.{lt-one}
 use lib.Bits.{bitAnd}
 use lib.Count.{ones, onesIn, ones-step}
 use lib.Dec.{eqb}
-use lib.ListN.{length}
+use lib.ListN.{length, getD}
 use borrow.Author.Tests.{eqb-true, eqb-false, eq-eqb, ne-eqb}
 use Rattle.kit.specs.Kit.{bit, held, keep, kindsFrom, kinds, allHeld}
 use Rattle.kit.proofs.BitLaws.{bit-small, bit-next, bit-ext, and-bit}
@@ -131,3 +131,36 @@ and-is-all kit want h = go (allHeld kit (kinds want)) refl
     go : (b : Bool) → allHeld kit (kinds want) ≡ b → eqb (bitAnd kit want) want ≡ b
     go true e = eq-eqb _ _ (and-wants kit want h e)
     go false e = ne-eqb _ _ (λ q. let z : true ≡ false = sym (wants-and kit want q) ∙ e in let y : _≡_ {A = ℕ} 0 1 = cc in omega arith)
+
+-- ---- in ascending order
+
+abbrev AtLeast : ℕ → List ℕ → Type 0
+AtLeast k l = (j : ℕ) → j < length l → k ≤ getD l j 0
+
+abbrev Ascending : List ℕ → Type 0
+Ascending l = (i j : ℕ) → i < j → j < length l → getD l i 0 < getD l j 0
+
+keep-least : (b : Bool) (k : ℕ) (l : List ℕ) → AtLeast (suc k) l → AtLeast k (keep b k l)
+keep-least false k l h j b = omega (arith, h j b)
+keep-least true k l h zero b = omega arith
+keep-least true k l h (suc j) b = let m : j < length l = omega arith in omega (arith, h j m)
+
+keep-ascends : (b : Bool) (k : ℕ) (l : List ℕ) → AtLeast (suc k) l → Ascending l → Ascending (keep b k l)
+keep-ascends false k l h f i j a b = f i j a b
+keep-ascends true k l h f i zero a b = absurd (omega arith)
+keep-ascends true k l h f zero (suc j) a b = h j (omega arith)
+keep-ascends true k l h f (suc i) (suc j) a b = f i j (omega arith) (omega arith)
+
+least-from : (w many k : ℕ) → AtLeast k (kindsFrom w k many)
+unfolding kindsFrom
+least-from w zero k = λ j b. absurd (omega arith)
+least-from w (suc many) k = keep-least (held w k) k (kindsFrom w (suc k) many) (least-from w many (suc k))
+
+ascends-from : (w many k : ℕ) → Ascending (kindsFrom w k many)
+unfolding kindsFrom
+ascends-from w zero k = λ i j a b. absurd (omega arith)
+ascends-from w (suc many) k = keep-ascends (held w k) k (kindsFrom w (suc k) many) (least-from w many (suc k)) (ascends-from w many (suc k))
+
+pub kinds-ascending : (w i j : ℕ) → i < j → j < length (kinds w) → getD (kinds w) i 0 < getD (kinds w) j 0
+unfolding kinds
+kinds-ascending w = ascends-from w 64 0

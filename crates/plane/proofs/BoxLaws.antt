@@ -10,7 +10,7 @@ use Rattle.plane.specs.Plane.{outside, squaredOf, point, box, square, ap
 use Rattle.plane.specs.declared.Box.{Box}
 use Rattle.plane.proofs.WholeLaws.{le-make, square-le, squares-add}
 use Rattle.plane.proofs.GapLaws.{gap-comm, gap-within, gap-point, gap-proper}
-use Rattle.plane.proofs.JoinLaws.{join-comm, join-self, join-assoc, first-in-join, second-in-join, join-tightest}
+use Rattle.plane.proofs.JoinLaws.{join-comm, join-self, join-assoc, first-in-join, second-in-join, join-tightest, inside-self, inside-trans}
 
 squares-le : (a b c d : ℕ) → a ≤ c → b ≤ d → square a + square b ≤ square c + square d
 squares-le a b c d h k = omega (arith, square-le a c h, square-le b d k)
@@ -63,3 +63,10 @@ box-second-in-join b c = record { x = second-in-join (b .x) (c .x); y = second-i
 
 pub box-join-tightest : (b c d : Box) → Within b d → Within c d → Within (joinBoxes b c) d
 box-join-tightest b c d h k = record { x = join-tightest (b .x) (c .x) (d .x) (h .x) (k .x); y = join-tightest (b .y) (c .y) (d .y) (h .y) (k .y) }
+
+-- lying within: each box in itself, and one in another through a third
+pub within-self : (b : Box) → Within b b
+within-self b = record { x = inside-self (b .x); y = inside-self (b .y) }
+
+pub within-trans : {b c d : Box} → Within b c → Within c d → Within b d
+within-trans h k = record { x = inside-trans (h .x) (k .x); y = inside-trans (h .y) (k .y) }

@@ -106,3 +106,10 @@ join-tightest s t u h k = record {
   lo = le-make (lesser .near (s .lo) (t .lo) (u .lo) (le-read (h .lo)) (le-read (k .lo)));
   hi = le-make (greater .near (s .hi) (t .hi) (u .hi) (le-read (h .hi)) (le-read (k .hi)));
 }
+
+-- lying inside, by itself
+pub inside-self : (s : Span) → Inside s s
+inside-self s = record { lo = le-make (omega arith); hi = le-make (omega arith) }
+
+pub inside-trans : {s t u : Span} → Inside s t → Inside t u → Inside s u
+inside-trans {s} {t} {u} h k = record { lo = le-make (omega (arith, le-read (h .lo), le-read (k .lo))); hi = le-make (omega (arith, le-read (h .hi), le-read (k .hi))) }

@@ -1,6 +1,6 @@
 -- Laws of a run's join, for any operation: boxes, kit words, one side of a box.
 -- Assumes nothing.
-use mathlib.Core.Path.{_≡_, refl, ap, ap₂, _∙_}
+use mathlib.Core.Path.{_≡_, ap, ap₂, _∙_}
 use Prim.Native.Nat.{ℕ, zero, suc, _+_, _-_, _≤_, _<_}
 use native.Mathlib.Nat.{add-suc, add-zero}
 use native.Mathlib.Numerals.{add-one}
@@ -34,13 +34,13 @@ pub record Joining {A : Type 0} (op : A → A → A) (f : ℕ → A) (from count
   pub is : so-far ≡ joined op f from k
 
 module _ {A : Type 0} (op : A → A → A) (f : ℕ → A) (from count : ℕ) where
-  pub join-first : 1 ≤ count → Joining op f from count (f from) 0
+  pub join-first : {so-far : A} → so-far ≡ f from → 1 ≤ count → Joining op f from count so-far 0
   unfolding joined
-  join-first l = record { within = l; is = refl }
+  join-first e l = record { within = l; is = e }
 
-  pub join-more : (so-far : A) (k : ℕ) → Joining op f from count so-far k → k + 1 < count → Joining op f from count (op so-far (f (from + (k + 1)))) (k + 1)
+  pub join-more : {so-far next : A} {k : ℕ} → Joining op f from count so-far k → k + 1 < count → next ≡ op so-far (f (from + (k + 1))) → Joining op f from count next (k + 1)
   unfolding joined
-  join-more so-far k h l = record { within = l; is = rw (add-one k) (ap (λ (a : A). op a (f (from + suc k))) (h .is)) }
+  join-more {so-far} {next} {k} h l e = record { within = l; is = e ∙ rw (add-one k) (ap (λ (a : A). op a (f (from + suc k))) (h .is)) }
 
   pub join-all : (so-far : A) (k : ℕ) → Joining op f from count so-far k → count ≤ k + 1 → so-far ≡ joined op f from (count - 1)
   join-all so-far k h l = let last : k ≡ count - 1 = omega (arith, h .within) in h .is ∙ ap (joined op f from) last

@@ -1,6 +1,6 @@
 -- Signed machine numbers: a signed local holds the integer that was put there, and a difference of two i32 fits an i64.
 -- Assumes nothing.
-use mathlib.Core.Path.{_≡_, refl, sym}
+use mathlib.Core.Path.{_≡_, refl, sym, ap, _∙_}
 use mathlib.Core.Bool.{Bool, true, false, _||_}
 use Prim.Native.Nat.{_+_, _*_, _^_, _≤_, _<_}
 use native.Mathlib.Omega.{arith}
@@ -22,6 +22,10 @@ wide f = sfits-widen tt f
 -- an i32 cast to i64
 pub widened : {z : ℤ} → SFits w32 z → toZ w64 (ofZ w64 (toZ w32 (ofZ w32 z))) ≡ z
 widened f = rw (toZ-ofZ f, toZ-ofZ (wide f))
+
+-- the bits tell two i32 apart
+pub bits-inj : {a b : ℤ} → SFits w32 a → SFits w32 b → ofZ w32 a ≡ ofZ w32 b → a ≡ b
+bits-inj f g e = sym (toZ-ofZ f) ∙ ap (toZ w32) e ∙ toZ-ofZ g
 
 -- how large an i32 is
 pub size : {z : ℤ} → SFits w32 z → up z + down z ≤ 2 ^ 31

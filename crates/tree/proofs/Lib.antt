@@ -11,4 +11,5 @@ pub mod NodeLaws
 pub mod KeptLaws
 pub mod BelowLaws
 pub mod TreeLaws
+pub mod RangeLaws
 pub mod Soundings

@@ -1,0 +1,1 @@
+// Theory only: groups, the answer to a want, candidates over a tree, and why dropping is safe.

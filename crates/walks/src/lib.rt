@@ -1,0 +1,1 @@
+// Theory only: what any walk that drops comes to.

@@ -37,7 +37,7 @@ module _ (t : Table) (box : ℕ → Thing → Box) where
   mates (k ∷ kinds) (x ∷ c) (q ∷ g) e h w = (w 0 (omega arith), mates kinds c g (omega arith) (omega arith) (λ i l. w (suc i) (omega arith)))
 
   -- places have their own boxes
-  own-boxes : ((k q : ℕ) → box k (place q) ≡ boxOf t q) → (kinds : List ℕ) (c : List Thing) → length c ≡ length kinds →
+  pub own-boxes : ((k q : ℕ) → box k (place q) ≡ boxOf t q) → (kinds : List ℕ) (c : List Thing) → length c ≡ length kinds →
       ((i : ℕ) → i < length c → member c i ≡ place (number (member c i))) → boxesIn box kinds c ≡ map (boxOf t) (map number c)
   unfolding boxesIn
   own-boxes own [] [] e h = refl

@@ -11,7 +11,7 @@ use lib.Seq.{set-at}
 use Rattle.kit.specs.Kit.{held, keep, kindsFrom, kinds, padded, listed}
 use Rattle.kit.specs.declared.Listed.{Listed}
 
-put : (l : List ℕ) (k : ℕ) → length l < 8 → set (padded l) (length l) k ≡ padded (l ++ (k ∷ []))
+pub put : (l : List ℕ) (k : ℕ) → length l < 8 → set (padded l) (length l) k ≡ padded (l ++ (k ∷ []))
 unfolding padded
 put l k h =
     let e : 8 - length l ≡ suc (7 - length l) = omega arith in

@@ -1,0 +1,242 @@
+use Prim.Native.Nat.{ℕ, suc, _-_, _≤_, _<_}
+use mathlib.Core.Bool.{true}
+use mathlib.Core.Path.{_≡_, refl, sym, ap, _∙_}
+use mathlib.Core.List.{List}
+use native.Mathlib.Omega.{arith}
+use borrow.Author.Needs.{needs}
+use lib.ListN.{length, take, drop, getD, length-map}
+use borrow.Author.Tests.{not-true, not-false}
+use Rattle.table.specs.Table.{Table, table}
+use Rattle.tree.specs.Tree.{Tree, Thing, node, level, countOf}
+use Rattle.tree.specs.Lent.{shape, sides, tree}
+use Rattle.closest.specs.Candidate.{entriesOf, entry, member, levels, topmost}
+use Rattle.closest.specs.Walk.{holds}
+use Rattle.walks.specs.Allowance.{advance}
+use Rattle.walk.specs.Members.{thingOf, thingsOf, Fair}
+use Rattle.walk.specs.Opening.{Opens, Goes}
+use Rattle.walk.specs.State.{standOf, walkBest, Turned}
+use Rattle.walk.proofs.StepLaws.{leads, levels-set, again-held, again-not, ended, walk-open}
+use Rattle.walk.proofs.HeightLaws.{heights, fair-levels}
+use Rattle.closest.specs.Group.{spread}
+use Rattle.walk.proofs.MemberLaws.{boxes-are}
+use Rattle.walk.proofs.OpenLaws.{stand, many, placed}
+use Rattle.walk.proofs.EntryLaws.{entry-lower}
+use borrow.Fn.Kinds.{In}
+use borrow.Fn.PlainCycle.{Measures, is, falls, and}
+use Rattle.walk.proofs.walk.Reads as walk
+use Rattle.walk.proofs.walk.Kinds as walk-kinds
+use Rattle.walk.proofs.+walk.Lts-walk as walk-lts
+use Rattle.walk.proofs.next_at.Reads as next-at-reads
+use Rattle.walk.proofs.open_at.Reads as open-at-reads
+use Rattle.walk.proofs.take_step.Reads as take-step-reads
+use Rattle.walk.proofs.+walk.{statement}
+use Rattle.walk.proofs.+walk.Tie.{close}
+
+abbrev μ-walk : Measures 12 walk-kinds.ps ℕ
+μ-walk κs a = heights (take (a .1 .1 .1 .1 .1 .1 .1 .1 .1 .1 .1 .1 .1 .1 .1 .0) (a .1 .1 .1 .1 .1 .1 .1 .1 .1 .1 .1 .1 .1 .1 .1 .1 .1 .0))
+
+abbrev walk-at : ℕ → In 12 walk-kinds.ps
+walk-at t = and 12 walk-kinds.ps (is 12 walk-kinds.ps μ-walk t) walk.Pre
+
+abbrev walk-below : ℕ → In 12 walk-kinds.ps
+walk-below t = and 12 walk-kinds.ps (falls 12 walk-kinds.ps _<_ μ-walk t) walk.Pre
+
+abbrev claims : ℕ → walk-lts.Claims
+claims t = (
+  take-step-reads.Asked,
+  take-step-reads.Learnt,
+  open-at-reads.Asked,
+  open-at-reads.Learnt,
+  next-at-reads.Asked,
+  next-at-reads.Learnt,
+  walk-below t,
+  walk.Post,
+)
+
+abbrev walk-Inv-loop : walk-lts.InvT-loop
+walk-Inv-loop level start count entries x y kit x-lo x-hi y-lo y-hi kits nodes listed kinds m allowance cand spread st₀ o k₀ st k =
+    (k ≤ o .many)
+    × (leads (table x y kit) (tree (shape nodes listed level start count entries) (sides x-lo x-hi y-lo y-hi) kits) (take m kinds) allowance (thingsOf (take m cand)) (o .top) (drop k (entriesOf (shape nodes listed level start count entries) (node (o .node)))) (standOf st)
+    ≡ leads (table x y kit) (tree (shape nodes listed level start count entries) (sides x-lo x-hi y-lo y-hi) kits) (take m kinds) allowance (thingsOf (take m cand)) (o .top) (entriesOf (shape nodes listed level start count entries) (node (o .node))) (standOf st₀))
+
+abbrev walk-μ-loop : walk-lts.MeasureT-loop
+walk-μ-loop level start count entries x y kit x-lo x-hi y-lo y-hi kits nodes listed kinds m allowance cand spread st₀ o k₀ st k =
+    o .many - k
+
+-- the places that the proof speaks of: the start, the step taken, the candidate opened, the loop
+abbrev Start : ℕ → Type 0
+Start t = walk-lts.Start (claims t) (walk-at t) walk.Post walk-Inv-loop walk-μ-loop
+
+abbrev Taken : ℕ → Type 0
+Taken t = walk-lts.After-take-step (claims t) (walk-at t) walk.Post walk-Inv-loop walk-μ-loop
+
+abbrev Open : ℕ → Type 0
+Open t = walk-lts.After-open-at (claims t) (walk-at t) walk.Post walk-Inv-loop walk-μ-loop
+
+abbrev Round : ℕ → Type 0
+Round t = walk-lts.After-next-at (claims t) (walk-at t) walk.Post walk-Inv-loop walk-μ-loop
+
+abbrev first : (t : ℕ) → Taken t → Start t
+first t c = c .before .before .before .before .before .before .before
+
+abbrev taken : (t : ℕ) → Open t → Taken t
+taken t c = c .before .before .before .before
+
+abbrev opening : (t : ℕ) → Round t → Open t
+opening t c = c .before .before .before .before
+
+abbrev places : (t : ℕ) → Start t → Table
+places t b = table (b .args .x .now) (b .args .y .now) (b .args .kit .now)
+
+abbrev over : (t : ℕ) → Start t → Tree
+over t b =
+    tree (shape (b .args .nodes) (b .args .listed) (b .args .level .now) (b .args .start .now) (b .args .count .now) (b .args .entries .now))
+    (sides (b .args .x-lo .now) (b .args .x-hi .now) (b .args .y-lo .now) (b .args .y-hi .now)) (b .args .kits .now)
+
+abbrev wanted : (t : ℕ) → Start t → List ℕ
+wanted t b = take (b .args .m) (b .args .kinds)
+
+abbrev things : (t : ℕ) → Start t → List Thing
+things t b = thingsOf (take (b .args .m) (b .args .cand))
+
+long : (t : ℕ) (b : Start t) → b .args .m ≤ length (b .args .cand)
+long t b =
+    let eight : length (b .args .cand) ≡ 8 = search needs in
+    omega (arith, b .pre .1 .1 .0 .most)
+
+-- what the step did
+turned : (t : ℕ) (c : Taken t) → let b = first t c in Turned (places t b) (over t b) (wanted t b) (b .args .allowance) (things t b) (b .args .s) (c .take-step .result)
+turned t c =
+    let b = first t c in
+    let fair : Fair (places t b) (over t b) (wanted t b) (take (b .args .m) (b .args .cand)) = b .pre .1 .1 .1 .0 in
+    let f = stand (b .pre .1 .0) (wanted t b) (b .args .m) (b .args .cand) (long t b) fair in
+    let even : length (wanted t b) ≡ length (things t b) = sym (length-map (take (b .args .m) (b .args .cand)) thingOf ∙ fair .size) in
+    c .take-step .ensures (places t b) (over t b) (wanted t b) (things t b) (fair .so) even (placed (b .pre .1 .0) (wanted t b) (b .args .m) (b .args .cand) (long t b) fair) (b .pre .1 .1 .1 .1 ∙ ap spread (boxes-are f (wanted t b) even))
+
+walk-take-step-requires : (t : ℕ) → walk-lts.Need-take-step-requires (claims t) (walk-at t) walk.Post walk-Inv-loop walk-μ-loop
+walk-take-step-requires t c κs = (c .before .before .before .before .before .before .pre .1 .1 .0 .some, c .before .before .before .before .before .before .pre .1 .1 .0 .most)
+
+walk-returns : (t : ℕ) → walk-lts.Need-returns (claims t) (walk-at t) walk.Post walk-Inv-loop walk-μ-loop
+walk-returns t c = turned t (c .before .before .before) .done (not-true _ (c .if1 .taken))
+
+walk-open-at-requires : (t : ℕ) → walk-lts.Need-open-at-requires (claims t) (walk-at t) walk.Post walk-Inv-loop walk-μ-loop
+walk-open-at-requires t c κs =
+    let b = first t (c .before .before .before) in
+    let opens = not-false _ (c .if1 .left) in
+    (b .pre .1 .0, (b .pre .1 .1 .0, (b .pre .1 .1 .1 .0, (turned t (c .before .before .before) .top opens, turned t (c .before .before .before) .whole opens))))
+
+walk-loop-holds : (t : ℕ) → walk-lts.Need-loop-holds (claims t) (walk-at t) walk.Post walk-Inv-loop walk-μ-loop
+walk-loop-holds t c = (omega arith, refl)
+
+walk-next-at-requires : (t : ℕ) → walk-lts.Need-next-at-requires (claims t) (walk-at t) walk.Post walk-Inv-loop walk-μ-loop
+walk-next-at-requires t c κs =
+    let o : Open t = c .before .before .before in
+    let b = first t (taken t o) in
+    (b .pre .1 .0, (b .pre .1 .1 .0, (b .pre .1 .1 .1 .0, (c .if2 .taken, o .open-at .ensures .1))))
+
+walk-add-k : (t : ℕ) → walk-lts.Need-add-k (claims t) (walk-at t) walk.Post walk-Inv-loop walk-μ-loop
+walk-add-k t c = search needs
+
+-- what is known in the loop
+inside : (t : ℕ) (o : Open t) → o .open-at .result .top < length (things t (first t (taken t o)))
+inside t o =
+    let b = first t (taken t o) in
+    omega (arith, many (b .pre .1 .0) (wanted t b) (b .args .m) (b .args .cand) (long t b) (b .pre .1 .1 .1 .0), o .open-at .ensures .1 .inside)
+
+module _ (t : ℕ) (c : Round t) where
+  abbrev o : Open t
+  o = opening t c
+
+  abbrev b : Start t
+  b = first t (taken t o)
+
+  abbrev k : ℕ
+  k = c .before .before .before .loop .k
+
+  abbrev y : Thing
+  y = entry (over t b .shape) (o .open-at .result .node) k
+
+  opens : Opens (places t b) (over t b) (wanted t b) (b .args .m) (b .args .cand) (o .open-at .result)
+  opens = o .open-at .ensures .1
+
+  goes : Goes (places t b) (over t b) (wanted t b) (b .args .m) (b .args .cand) (o .open-at .result) k (c .next-at .result)
+  goes = c .next-at .ensures
+
+  in-run : k < countOf (over t b .shape) (o .open-at .result .node)
+  in-run = omega (arith, c .before .if2 .taken, opens .many)
+
+  lower : level (over t b .shape) (member (things t b) (o .open-at .result .top)) ≡ suc (level (over t b .shape) y)
+  lower = ap (level (over t b .shape)) (opens .is) ∙ entry-lower (b .pre .1 .0) (o .open-at .result .node) k (opens .there) in-run
+
+  held : c .next-at .result .holds ≡ holds (places t b) (over t b) (getD (wanted t b) (o .open-at .result .top) 0) y
+  held = goes .holds ∙ ap (λ (kind : ℕ). holds (places t b) (over t b) kind y) (opens .kind)
+
+  fallen : c .next-at .result .holds ≡ true → heights (take (b .args .m) (c .next-at .result .cand)) < heights (take (b .args .m) (b .args .cand))
+  fallen h =
+      omega (arith, fair-levels (goes .fair h) ∙ ap (levels (over t b .shape)) (goes .is h), levels-set (over t b .shape) (things t b) (o .open-at .result .top) y (inside t o) lower, fair-levels (b .pre .1 .1 .1 .0))
+
+walk-walk-requires : (t : ℕ) → walk-lts.Need-walk-requires (claims t) (walk-at t) walk.Post walk-Inv-loop walk-μ-loop
+walk-walk-requires t c κs =
+    let r : Round t = c .before .before in
+    let h = c .before .if3 .taken in
+    (omega (arith, fallen t r h, b t r .pre .0), (b t r .pre .1 .0, (b t r .pre .1 .1 .0, (goes t r .fair h, goes t r .spread h))))
+
+walk-loop-less : (t : ℕ) → walk-lts.Need-loop-less (claims t) (walk-at t) walk.Post walk-Inv-loop walk-μ-loop
+walk-loop-less t c = search needs
+
+walk-loop-again : (t : ℕ) → walk-lts.Need-loop-again (claims t) (walk-at t) walk.Post walk-Inv-loop walk-μ-loop
+walk-loop-again t c =
+    let r : Round t = c .before .before .before in
+    let h = c .before .before .if3 .taken in
+    let st = r .before .before .before .loop .st in (
+      omega arith,
+      sym (again-held (places t (b t r)) (over t (b t r)) (wanted t (b t r)) (b t r .args .allowance) (things t (b t r)) (o t r .open-at .result .top) (o t r .open-at .result .node) (k t r) (standOf st) (standOf (c .walk .result)) (in-run t r) (sym (held t r) ∙ h) (inside t (o t r)) (lower t r)
+          (c .walk .ensures ∙ ap (λ (d : List Thing). advance (b t r .args .allowance) (walkBest (places t (b t r)) (over t (b t r)) (wanted t (b t r)) d (st .best)) (standOf st)) (goes t r .is h))) ∙ r .before .before .before .loop .inv .1,
+    )
+
+walk-loop-less-2 : (t : ℕ) → walk-lts.Need-loop-less-2 (claims t) (walk-at t) walk.Post walk-Inv-loop walk-μ-loop
+walk-loop-less-2 t c = search needs
+
+walk-loop-again-2 : (t : ℕ) → walk-lts.Need-loop-again-2 (claims t) (walk-at t) walk.Post walk-Inv-loop walk-μ-loop
+walk-loop-again-2 t c =
+    let r : Round t = c .before in
+    (omega arith, sym (again-not (places t (b t r)) (over t (b t r)) (wanted t (b t r)) (b t r .args .allowance) (things t (b t r)) (o t r .open-at .result .top) (o t r .open-at .result .node) (k t r) (standOf (r .before .before .before .loop .st)) (in-run t r) (sym (held t r) ∙ c .if3 .left)) ∙ r .before .before .before .loop .inv .1)
+
+-- the candidate that was opened leads over the run
+led : (t : ℕ) (o : Open t) → let b = first t (taken t o) in
+    advance (b .args .allowance) (walkBest (places t b) (over t b) (wanted t b) (things t b) (b .args .s .best)) (standOf (b .args .s))
+    ≡ leads (places t b) (over t b) (wanted t b) (b .args .allowance) (things t b) (o .open-at .result .top) (entriesOf (over t b .shape) (node (o .open-at .result .node))) (standOf (taken t o .take-step .result .state))
+led t o =
+    let b = first t (taken t o) in
+    let opens = not-false _ (o .before .if1 .left) in
+    let u = turned t (taken t o) in
+    let top : o .open-at .result .top ≡ topmost (over t b .shape) (things t b) = o .open-at .ensures .0 ∙ u .top opens in
+    let is : member (things t b) (o .open-at .result .top) ≡ node (o .open-at .result .node) = o .open-at .ensures .1 .is in
+    rw (← top, is) at (walk-open (places t b) (over t b) (wanted t b) (b .args .allowance) (things t b) (standOf (b .args .s)) (standOf (taken t o .take-step .result .state)) (u .left opens) (u .whole opens) (u .steps opens) (u .room opens))
+
+walk-returns-2 : (t : ℕ) → walk-lts.Need-returns-2 (claims t) (walk-at t) walk.Post walk-Inv-loop walk-μ-loop
+walk-returns-2 t c =
+    let d : Open t = c .before .before .before in
+    let e = first t (taken t d) in
+    sym (ended (places t e) (over t e) (wanted t e) (e .args .allowance) (things t e) (d .open-at .result .top) (d .open-at .result .node) (c .before .before .loop .k) (standOf (c .before .before .loop .st)) (omega (arith, c .if2 .left, d .open-at .ensures .1 .many)))
+    ∙ c .before .before .loop .inv .1
+    ∙ sym (led t d)
+
+pub +walk-spec : {M : Type 1} → statement M
++walk-spec = close μ-walk λ t. walk-lts.spec (claims t)
+    (walk-at t)
+    walk.Post
+    walk-Inv-loop
+    walk-μ-loop
+    (walk-take-step-requires t)
+    (walk-returns t)
+    (walk-open-at-requires t)
+    (walk-loop-holds t)
+    (walk-next-at-requires t)
+    (walk-add-k t)
+    (walk-walk-requires t)
+    (walk-loop-less t)
+    (walk-loop-again t)
+    (walk-loop-less-2 t)
+    (walk-loop-again-2 t)
+    (walk-returns-2 t)

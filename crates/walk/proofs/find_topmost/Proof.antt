@@ -1,0 +1,83 @@
+-- Member i, of level `most`, leads those before j.
+-- Assumes nothing.
+use mathlib.Core.Path.{_≡_, refl, sym, ap, _∙_}
+use mathlib.Core.List.{List}
+use Prim.Native.Nat.{_-_, _<_}
+use native.Mathlib.Omega.{arith}
+use borrow.Author.Needs.{needs}
+use lib.ListN.{length, take, drop}
+use Rattle.table.specs.Table.{Table}
+use Rattle.tree.specs.Tree.{Tree, Thing, level}
+use Rattle.closest.specs.Candidate.{member, lead, topmost}
+use Rattle.walk.specs.Members.{membersOf}
+use Rattle.walk.proofs.MemberLaws.{StandFor, size, stands-at}
+use Rattle.walk.proofs.LeadLaws.{lead-more, lead-same, lead-done}
+use Rattle.walk.proofs.find_topmost.Statement.{statement}
+use Rattle.walk.proofs.find_topmost.Tie as tie
+
+abbrev Inv-loop : tie.InvT-loop
+Inv-loop m cand i₀ most₀ j₀ i most j =
+    (t : Table) (w : Tree) (c : List Thing) → take m cand ≡ membersOf t w c → lead (w .shape) i most j (drop j c) ≡ topmost (w .shape) c
+
+abbrev μ-loop : tie.MeasureT-loop
+μ-loop m cand i₀ most₀ j₀ i most j = m - j
+
+loop-holds : tie.Need-loop-holds Inv-loop μ-loop
+unfolding topmost
+loop-holds c = λ t w d e. refl
+
+pick-requires : tie.Need-pick-requires Inv-loop μ-loop
+pick-requires c κs = tt
+
+add-j : tie.Need-add-j Inv-loop μ-loop
+add-j c = omega arith
+
+-- the members stand for a candidate, and that at j has the level that was read
+for : (s : tie.Start Inv-loop μ-loop) (t : Table) (w : Tree) (d : List Thing) → take (s .args .m) (s .args .cand) ≡ membersOf t w d → StandFor t w (s .args .m) (s .args .cand) d
+for s t w d e = let eight : length (s .args .cand) ≡ 8 = search needs in record { long = omega arith; so = e }
+
+here : (c : tie.After-pick Inv-loop μ-loop) (t : Table) (w : Tree) (d : List Thing) →
+    let s = c .before .before .before in
+    let j = c .before .before .loop .j in
+    take (s .args .m) (s .args .cand) ≡ membersOf t w d → (j < length d) × (level (w .shape) (member d j) ≡ c .pick .result .level)
+here c t w d e =
+    let f = for (c .before .before .before) t w d e in
+    (omega (arith, size f), ap (λ q. q .level) (sym (c .pick .ensures ∙ stands-at f (c .before .before .loop .j) (c .before .loop-test .taken))))
+
+loop-less : tie.Need-loop-less Inv-loop μ-loop
+loop-less c = omega arith
+
+loop-again : tie.Need-loop-again Inv-loop μ-loop
+loop-again c = λ t w d e.
+    let l = c .before .before .before .before .loop in
+    let h = here (c .before .before) t w d e in
+    sym (lead-more (w .shape) (l .i) (l .most) d (l .j) _ (h .0) (h .1) (c .if1 .taken)) ∙ l .inv t w d e
+
+loop-less-2 : tie.Need-loop-less-2 Inv-loop μ-loop
+loop-less-2 c = omega arith
+
+loop-again-2 : tie.Need-loop-again-2 Inv-loop μ-loop
+loop-again-2 c = λ t w d e.
+    let l = c .before .before .before .before .loop in
+    let h = here (c .before .before) t w d e in
+    sym (lead-same (w .shape) (l .i) (l .most) d (l .j) _ (h .0) (h .1) (c .if1 .left)) ∙ l .inv t w d e
+
+returns : tie.Need-returns Inv-loop μ-loop
+returns c = λ t w d e.
+    let l = c .before .loop in
+    sym (lead-done (w .shape) (l .i) (l .most) (l .j) d (l .j) (omega (arith, size (for (c .before .before) t w d e)))) ∙ l .inv t w d e
+
+pub find-topmost-spec : {M : Type 1} → statement M
+find-topmost-spec =
+    tie.close
+    (tie.spec
+    Inv-loop
+    μ-loop
+    loop-holds
+    pick-requires
+    add-j
+    loop-less
+    loop-again
+    loop-less-2
+    loop-again-2
+    returns)

@@ -44,12 +44,12 @@ member-of (a ∷ l) zero h = List·Memᴰ·head refl
 member-of (a ∷ l) (suc i) h = List·Memᴰ·tail (member-of l i (omega arith))
 
 -- where the walk begins there is a node, and the root holds every kind
-record Begun (t : Table) (tree : Tree) (kinds : List ℕ) : Type 0 where
-  some : 0 < tree .shape .nodes
-  all : (i : ℕ) → i < length kinds → holds t tree (getD kinds i 0) (node 0) ≡ true
+pub record Begun (t : Table) (tree : Tree) (kinds : List ℕ) : Type 0 where
+  pub some : 0 < tree .shape .nodes
+  pub all : (i : ℕ) → i < length kinds → holds t tree (getD kinds i 0) (node 0) ≡ true
 
 module _ {t : Table} {tree : Tree} (kinds : List ℕ) where
-  begun-of : begins t tree kinds ≡ true → Begun t tree kinds
+  pub begun-of : begins t tree kinds ≡ true → Begun t tree kinds
   unfolding begins
   begun-of e = go (ltb 0 (tree .shape .nodes)) refl e
     where
@@ -71,7 +71,7 @@ root-some : {s : Shape} {q : ℕ} → Below s (place q) (node 0) → 0 < s .node
 root-some (through n i t b) = t .node
 
 module _ {t : Table} {tree : Tree} (m : Meets t tree) where
-  sound : Sound (places t) (tree .shape) (holds t tree)
+  pub sound : Sound (places t) (tree .shape) (holds t tree)
   sound = record { linked = linked m; rises = λ k n i. node-holds m k i n }
 
   around : Around t (tree .shape) (holds t tree) (boxes t tree)
@@ -112,7 +112,7 @@ module _ {t : Table} {tree : Tree} (m : Meets t tree) (kinds : List ℕ) where
   root-at : (i : ℕ) → i < length (roots kinds) → member (roots kinds) i ≡ node 0
   root-at i l = getD-replicate (length kinds) i (node 0) (place 0) (omega (arith, length-replicate (length kinds) (node 0)))
 
-  roots-fine : Begun t tree kinds → Fine (places t) (tree .shape) (holds t tree) kinds (roots kinds)
+  pub roots-fine : Begun t tree kinds → Fine (places t) (tree .shape) (holds t tree) kinds (roots kinds)
   roots-fine b =
       let n = length-replicate (length kinds) (node 0) in
       record { size = n; good = λ i l. rw (root-at i l) (b .some); holding = λ i l. rw (root-at i l) (b .all i (omega arith)) }

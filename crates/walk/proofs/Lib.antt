@@ -9,3 +9,5 @@ pub mod MemberLaws
 pub mod TurnLaws
 pub mod EntryLaws
 pub mod OpenLaws
+pub mod BridgeLaws
+pub mod RootLaws

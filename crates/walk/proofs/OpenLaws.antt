@@ -33,7 +33,7 @@ high-node tree (node n) h = refl
 
 module _ {t : Table} {tree : Tree} (p : Passes t tree) where
   -- what stands for a thing that there is, stands for it only
-  thing-of : (x : Thing) → Real t tree x → thingOf (memberOf t tree x) ≡ x
+  pub thing-of : (x : Thing) → Real t tree x → thingOf (memberOf t tree x) ≡ x
   thing-of (place q) r = refl
   thing-of (node n) r = ap (λ u. thing u n) (ne-eqb (levelOf (tree .shape) n) 0 (λ e. omega (arith, node-high p n r)))
 

@@ -15,11 +15,11 @@ ghost use Rattle.tree.specs.Lent.{shape, sides, tree};
 ghost use Rattle.walks.specs.Order.{before};
 ghost use Rattle.closest.specs.Group;
 ghost use Rattle.closest.specs.Group.{farthest, spread};
-ghost use Rattle.closest.specs.Walk.{boxes};
+ghost use Rattle.closest.specs.Walk.{boxes, begins, standsAt};
 ghost use Rattle.closest.specs.Candidate.{topmost, boxesIn, groupOf};
 ghost use Rattle.walk.specs.Members.{memberOf, membersOf, Placed, nobody, boxesOf, without, skip, AllRanged, thingsOf, Fair, Few, Passes};
 ghost use Rattle.walk.specs.Opening.{Opens, Goes};
-ghost use Rattle.walk.specs.State.{improved, Turned, standOf, walkBest};
+ghost use Rattle.walk.specs.State.{improved, Turned, standOf, stateOf, walkBest};
 ghost use Rattle.walks.specs.Allowance.{advance};
 
 // A member of a candidate; a place has level 0.
@@ -437,7 +437,7 @@ fn next_at(
 }
 
 // Takes a candidate, of which m members stand for things and whose spread is known, and all below it.
-pub fn walk(
+fn walk(
     level: &[u8],
     start: &[u16],
     count: &[u8],
@@ -541,4 +541,68 @@ pub fn walk(
         }
     }
     st
+}
+
+// Internal: the whole walk of a want whose kinds the root holds.
+pub fn walk_all(
+    level: &[u8],
+    start: &[u16],
+    count: &[u8],
+    entries: &[u16],
+    x: &[i32],
+    y: &[i32],
+    kit: &[u64],
+    x_lo: &[i32],
+    x_hi: &[i32],
+    y_lo: &[i32],
+    y_hi: &[i32],
+    kits: &[u64],
+    nodes: usize,
+    listed: usize,
+    kinds: [u8; 8],
+    m: usize,
+    allowance: u32,
+) -> State
+    requires { ⌜ Passes (table (now x) (now y) (now kit)) (tree (shape nodes listed (now level) (now start) (now count) (now entries)) (sides (now «x_lo») (now «x_hi») (now «y_lo») (now «y_hi»)) (now kits)) ⌝ }
+    requires { ⌜ Few m kinds ⌝ }
+    requires { ⌜ begins (table (now x) (now y) (now kit)) (tree (shape nodes listed (now level) (now start) (now count) (now entries)) (sides (now «x_lo») (now «x_hi») (now «y_lo») (now «y_hi»)) (now kits)) (take m kinds) ≡ true ⌝ }
+    ensures { λ r. ⌜ r ≡ stateOf (table (now (x .entry)) (now (y .entry)) (now (kit .entry))) (standsAt (table (now (x .entry)) (now (y .entry)) (now (kit .entry))) (tree (shape nodes listed (now (level .entry)) (now (start .entry)) (now (count .entry)) (now (entries .entry))) (sides (now («x_lo» .entry)) (now («x_hi» .entry)) (now («y_lo» .entry)) (now («y_hi» .entry))) (now (kits .entry))) (take m kinds) allowance) ⌝ }
+{
+    let root = member_at(false, 0, level, x, y, x_lo, x_hi, y_lo, y_hi);
+    let at = root.at;
+    let boxes = [at; 8];
+    let spread = spread_of(m, boxes);
+    let best = Best {
+        known: false,
+        squared: 0,
+        places: [0u16; 8],
+    };
+    let s = State {
+        steps: 0,
+        spent: false,
+        best,
+    };
+    let cand = [root; 8];
+    walk(
+        level,
+        start,
+        count,
+        entries,
+        x,
+        y,
+        kit,
+        x_lo,
+        x_hi,
+        y_lo,
+        y_hi,
+        kits,
+        nodes,
+        listed,
+        kinds,
+        m,
+        allowance,
+        cand,
+        spread,
+        s,
+    )
 }

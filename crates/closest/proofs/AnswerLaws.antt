@@ -38,7 +38,7 @@ better-order t = by-order (diameter t) before before-order
 pub answer-unique : (t : Table) (kinds : List ℕ) (k l : Option (List ℕ)) → IsAnswer t kinds k → IsAnswer t kinds l → k ≡ l
 answer-unique t kinds = best-unique (better-order t) (Covers t kinds)
 
-member-of : (l : List ℕ) (i : ℕ) → i < length l → List·Memᴰ (getD l i 0) l
+pub member-of : (l : List ℕ) (i : ℕ) → i < length l → List·Memᴰ (getD l i 0) l
 member-of [] i h = absurd (omega arith)
 member-of (a ∷ l) zero h = List·Memᴰ·head refl
 member-of (a ∷ l) (suc i) h = List·Memᴰ·tail (member-of l i (omega arith))

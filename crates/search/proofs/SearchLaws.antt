@@ -1,0 +1,95 @@
+-- The search by cases.
+-- Assumes nothing.
+use mathlib.Core.Path.{_≡_, refl, sym, ap, subst, _∙_}
+use mathlib.Core.Bool.{true, false}
+use mathlib.Core.List.{List, [], _∷_, _++_}
+use Prim.Native.Nat.{ℕ, _≤_, _<_}
+use native.Mathlib.Omega.{arith}
+use lib.ListN.{length, take, getD, List·getD-append}
+use borrow.Author.Tests.{eq-eqb, ne-eqb, lt-ltb, le-ltb}
+use Rattle.kit.specs.Kit.{kinds, allHeld, padded}
+use Rattle.kit.proofs.KindLaws.{kinds-member}
+use Rattle.table.specs.Table.{Table}
+use Rattle.tree.specs.Tree.{Tree, node, kitOf}
+use Rattle.verdict.specs.Rules.{AllHold, verdict}
+use Rattle.verdict.specs.declared.Verdict.{Verdict}
+use Rattle.verdict.proofs.RuleLaws.{none-broken}
+use Rattle.closest.specs.Walk.{begins, standsAt}
+use Rattle.closest.proofs.AnswerLaws.{member-of}
+use Rattle.walk.specs.Members.{Few, Passes}
+use Rattle.walk.specs.State.{stateOf}
+use Rattle.walk.specs.declared.State.{State}
+use Rattle.search.specs.Search.{searchRules, refused, said, outcome, searched}
+
+-- what the rules leave known
+pub record Sound (t : Table) (tree : Tree) (want : ℕ) : Type 0 where
+  pub some : 1 ≤ length (kinds want)
+  pub few : length (kinds want) ≤ 8
+  pub passes : Passes t tree
+
+-- whether the root holds the kinds
+pub begins-not : (t : Table) (tree : Tree) (kinds : List ℕ) → tree .shape .nodes ≡ 0 → begins t tree kinds ≡ false
+unfolding begins
+begins-not t tree kinds e = rw (begins, e)
+
+pub begins-held : (t : Table) (tree : Tree) (kinds : List ℕ) → 0 < tree .shape .nodes → begins t tree kinds ≡ allHeld (kitOf t (tree .kits) (node 0)) kinds
+unfolding begins
+begins-held t tree kinds l = rw (begins, lt-ltb 0 (tree .shape .nodes) l)
+
+-- the outcomes of a walk
+pub outcome-spent : (s : State) → s .spent ≡ true → said 32 s ≡ outcome s
+unfolding outcome
+outcome-spent s e = rw (outcome, e)
+
+pub outcome-wide : (s : State) → s .spent ≡ false → 8000000000000 < s .best .squared → refused 33 0 ≡ outcome s
+unfolding outcome
+outcome-wide s e l = rw (outcome, e, lt-ltb 8000000000000 (s .best .squared) l)
+
+pub outcome-found : (s : State) → s .spent ≡ false → s .best .squared ≤ 8000000000000 → said 0 s ≡ outcome s
+unfolding outcome
+outcome-found s e l = rw (outcome, e, le-ltb 8000000000000 (s .best .squared) l)
+
+-- the kinds of a want as the code has them
+take-append : (l z : List ℕ) → take (length l) (l ++ z) ≡ l
+take-append [] z = refl
+take-append (a ∷ l) z = ap (λ k. a ∷ k) (take-append l z)
+
+pub take-padded : (l : List ℕ) → take (length l) (padded l) ≡ l
+unfolding padded
+take-padded l = take-append l _
+
+pub few-of : (want : ℕ) → 1 ≤ length (kinds want) → length (kinds want) ≤ 8 → Few (length (kinds want)) (padded (kinds want))
+unfolding padded
+few-of want some few = record {
+  some = some;
+  most = few;
+  small = λ i l. subst (λ (k : ℕ). k < 64) (sym (List·getD-append (kinds want) _ 0 i l)) (kinds-member want (getD (kinds want) i 0) .0 (member-of (kinds want) i l) .0);
+}
+
+module _ (t : Table) (tree : Tree) (want allowance : ℕ) where
+  pub sound-of : AllHold (searchRules t tree want) → Sound t tree want
+  sound-of h = record {
+    some = h .0 0 (omega arith) (omega arith);
+    few = h .1 .0 0 (omega arith) (omega arith);
+    passes = record { sound = (h .1 .1 .0, (h .1 .1 .1 .0, tt)); passes = h .1 .1 .1 .1 };
+  }
+
+  -- a rule is broken
+  pub searched-fault : {v : Verdict} → v ≡ verdict (searchRules t tree want) → (v .code ≡ 0 → ⊥) → refused (v .code) (v .at) ≡ searched t tree want allowance
+  unfolding searched
+  searched-fault {v} e n =
+      ap (λ (u : Verdict). refused (u .code) (u .at)) e ∙ rw (searched, ne-eqb (verdict (searchRules t tree want) .code) 0 (λ z. n (ap (λ (u : Verdict). u .code) e ∙ z)))
+
+  module _ {v : Verdict} (e : v ≡ verdict (searchRules t tree want)) (z : v .code ≡ 0) where
+    pub searched-sound : Sound t tree want
+    searched-sound = sound-of (none-broken (searchRules t tree want) (ap (λ (u : Verdict). u .code) (sym e) ∙ z))
+
+    -- none
+    pub searched-none : begins t tree (kinds want) ≡ false → refused 31 0 ≡ searched t tree want allowance
+    unfolding searched
+    searched-none b = rw (searched, ← e, eq-eqb (v .code) 0 z, b)
+
+    -- the walk
+    pub searched-walk : begins t tree (kinds want) ≡ true → outcome (stateOf t (standsAt t tree (kinds want) allowance)) ≡ searched t tree want allowance
+    unfolding searched
+    searched-walk b = rw (searched, ← e, eq-eqb (v .code) 0 z, b)

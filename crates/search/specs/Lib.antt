@@ -1,0 +1,2 @@
+-- The search.
+pub mod Search

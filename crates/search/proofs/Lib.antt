@@ -1,2 +1,4 @@
 -- Laws of the search.
 pub mod SearchLaws
+pub mod DemandLaws
+pub mod Soundings

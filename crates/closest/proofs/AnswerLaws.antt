@@ -25,9 +25,9 @@ use Rattle.walks.proofs.OrderLaws.{clash, not-true, by-le, by-order, before-ord
 use Rattle.walks.proofs.BestLaws.{best-of, best-unique, best-lawful}
 use Rattle.walks.proofs.AllowanceLaws.{within, spent-is}
 use Rattle.closest.specs.Group.{Covers, diameter, better, IsAnswer}
-use Rattle.closest.specs.Candidate.{member, scene, tooFar}
+use Rattle.closest.specs.Candidate.{Good, member, scene, tooFar}
 use Rattle.closest.specs.Walk.{holds, boxes, roots, wholeWalk, begins, standsAt}
-use Rattle.closest.proofs.EntryLaws.{Good, named-at, entry-good, good-below}
+use Rattle.closest.proofs.EntryLaws.{named-at, entry-good, good-below}
 use Rattle.closest.proofs.ReachLaws.{Sound, Fine, Under, closed, reached, reaches}
 use Rattle.closest.proofs.DropLaws.{Around, safe}
 

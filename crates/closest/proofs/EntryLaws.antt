@@ -12,7 +12,7 @@ use Rattle.tree.proofs.BelowLaws.{Linked, Known, known, one-lower}
 use Rattle.tree.proofs.OwnerLaws.{named-is, run-within}
 use Rattle.walks.specs.Lists.{In}
 use Rattle.walks.proofs.ListLaws.{in-left, in-right, in-append}
-use Rattle.closest.specs.Candidate.{number, entry, entriesOf}
+use Rattle.closest.specs.Candidate.{number, Good, entry, entriesOf}
 
 -- the members of a list by a rule
 module _ {A : Type 0} (f : ℕ → A) where
@@ -32,12 +32,7 @@ module _ {A : Type 0} (f : ℕ → A) where
 pub data Entry (s : Shape) : Thing → Thing → Type 0 where
   named-at : (n i : ℕ) → Stands s i n → Entry s (node n) (named s i)
 
--- a place of the table, or a node of the tree
-abbrev pub Good : ℕ → Shape → Thing → Type 0
-Good p s (place q) = q < p
-Good p s (node n) = n < s .nodes
-
-known-good : (p : ℕ) (s : Shape) (x : Thing) → Known p s x → Good p s x
+pub known-good : (p : ℕ) (s : Shape) (x : Thing) → Known p s x → Good p s x
 known-good p s (place q) k = k
 known-good p s (node n) k = k .1
 

@@ -16,8 +16,8 @@ use Rattle.walks.specs.Lists.{In}
 use Rattle.walks.specs.Walk.{Memory, walk, reach}
 use Rattle.walks.proofs.ListLaws.{in-each, of-each}
 use Rattle.walks.proofs.WalkLaws.{Closed, reach-group, reach-open, enough}
-use Rattle.closest.specs.Candidate.{number, entriesOf, member, topmost, levels, groupOf, opened, scene}
-use Rattle.closest.proofs.EntryLaws.{Good, Entry, entry-good, entry-lower, of-entries, in-entries, is-place, only-itself, way, up-entry}
+use Rattle.closest.specs.Candidate.{Good, number, entriesOf, member, topmost, levels, groupOf, opened, scene}
+use Rattle.closest.proofs.EntryLaws.{Entry, entry-good, entry-lower, of-entries, in-entries, is-place, only-itself, way, up-entry}
 use Rattle.closest.proofs.CandidateLaws.{inside, of-replaced, in-replaced, levels-set, group-is, open-is}
 
 -- what the walk needs of a tree over p places, and of the test for kinds: what an entry holds its node holds

@@ -3,7 +3,7 @@
 use mathlib.Core.Bool.{Bool, true, false}
 use mathlib.Core.List.{List, [], _∷_, map}
 use mathlib.Core.Option.{Option, none, some}
-use Prim.Native.Nat.{ℕ, suc, _+_}
+use Prim.Native.Nat.{ℕ, suc, _+_, _<_}
 use lib.Dec.{ltb, eqb}
 use lib.ListN.{getD, set}
 use Rattle.order.specs.Tab.{tab}
@@ -16,6 +16,11 @@ use Rattle.closest.specs.Group.{spread}
 abbrev pub number : Thing → ℕ
 number (place p) = p
 number (node n) = n
+
+-- a thing that there is: one of p places, or a node
+abbrev pub Good : ℕ → Shape → Thing → Type 0
+Good p s (place q) = q < p
+Good p s (node n) = n < s .nodes
 
 -- entry k of the run of node n, and all its entries, in run order; a place has none
 abbrev pub entry : Shape → ℕ → ℕ → Thing

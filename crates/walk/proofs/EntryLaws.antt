@@ -10,10 +10,11 @@ use Rattle.table.specs.Table.{Table, places}
 use Rattle.table.proofs.TableLaws.{valid-even, valid-ranged}
 use Rattle.tree.specs.Tree.{Tree, Stands, startOf, countOf, levelOf, Thing, place, node, thing, named, level, boxOf}
 use Rattle.tree.proofs.OwnerLaws.{named-is, run-within}
-use Rattle.tree.proofs.BelowLaws.{Known, known}
+use Rattle.tree.proofs.BelowLaws.{known}
 use Rattle.tree.proofs.TreeLaws.{Meets, meets-of, linked, entry-level}
 use Rattle.tree.proofs.RangeLaws.{node-ranged}
 use Rattle.closest.specs.Candidate.{entry}
+use Rattle.closest.proofs.EntryLaws.{known-good}
 use Rattle.walk.specs.Members.{Real, Passes}
 
 module _ {t : Table} {tree : Tree} (p : Passes t tree) where
@@ -28,10 +29,6 @@ module _ {t : Table} {tree : Tree} (p : Passes t tree) where
   -- a node has a level, a place none
   pub node-high : (n : ℕ) → n < tree .shape .nodes → 1 ≤ levelOf (tree .shape) n
   node-high n l = meets .runs .shaped n l .level-low
-
-  real-of : (x : Thing) → Known (places t) (tree .shape) x → Real t tree x
-  real-of (place q) k = k
-  real-of (node n) k = k .1
 
   -- where columns are read for a thing that there is
   pub record Reads (leaf : Bool) (e : ℕ) : Type 0 where
@@ -57,7 +54,7 @@ module _ {t : Table} {tree : Tree} (p : Passes t tree) where
     entry-lower = sym (entry-level meets (startOf (tree .shape) n + k) n stands) ∙ ap (λ (x : Thing). suc (level (tree .shape) x)) entry-named
 
     pub entry-real : Real t tree (entry (tree .shape) n k)
-    entry-real = subst (Real t tree) entry-named (real-of (named (tree .shape) (startOf (tree .shape) n + k)) (known (linked meets) (startOf (tree .shape) n + k) listed))
+    entry-real = subst (Real t tree) entry-named (known-good (places t) (tree .shape) (named (tree .shape) (startOf (tree .shape) n + k)) (known (linked meets) (startOf (tree .shape) n + k) listed))
 
     pub entry-listed : startOf (tree .shape) n + k < length (tree .shape .entries)
     entry-listed = omega (arith, listed, meets .counted .room .entries)

@@ -15,10 +15,12 @@ use Rattle.table.specs.Table.{Table}
 use Rattle.tree.specs.Tree.{Tree, Thing, place, node, thing, level, levelOf, boxOf}
 use Rattle.closest.specs.Group.{farthest, spread}
 use Rattle.closest.specs.Candidate.{number, member, topmost, groupOf}
+use Rattle.tree.proofs.TreeLaws.{linked}
 use Rattle.closest.proofs.CandidateLaws.{inside, open-is}
+use Rattle.closest.proofs.EntryLaws.{is-place}
 use Rattle.walk.specs.Members.{memberOf, membersOf, Placed, nobody, boxesOf, without, AllRanged, thingOf, thingsOf, Real, Fair, Passes}
 use Rattle.walk.specs.declared.Member.{Member}
-use Rattle.walk.proofs.EntryLaws.{ranged, node-high}
+use Rattle.walk.proofs.EntryLaws.{meets, ranged, node-high}
 use Rattle.walk.proofs.BoxesLaws.{spread-set}
 use Rattle.walk.proofs.MemberLaws.{StandFor, stands-at, getD-map, set-map, replaced-so}
 
@@ -37,10 +39,6 @@ module _ {t : Table} {tree : Tree} (p : Passes t tree) where
   thing-of (place q) r = refl
   thing-of (node n) r = ap (λ u. thing u n) (ne-eqb (levelOf (tree .shape) n) 0 (λ e. omega (arith, node-high p n r)))
 
-  low-place : (x : Thing) → Real t tree x → level (tree .shape) x ≡ 0 → x ≡ place (number x)
-  low-place (place q) r e = refl
-  low-place (node n) r e = absurd (omega (arith, node-high p n r))
-
   module _ (kinds : List ℕ) (m : ℕ) (cand : List Member) (long : m ≤ length cand) (f : Fair t tree kinds (take m cand)) where
     pub stand : StandFor t tree m cand (thingsOf (take m cand))
     stand = record { long = long; so = f .so }
@@ -54,7 +52,7 @@ module _ {t : Table} {tree : Tree} (p : Passes t tree) where
         subst (Real t tree) (sym (getD-map thingOf (take m cand) i nobody (place 0) b)) (f .real i b)
 
     pub placed : Placed tree (thingsOf (take m cand))
-    placed i h e = low-place (member (thingsOf (take m cand)) i) (real-at i (omega (arith, many))) e
+    placed i h e = is-place (linked (meets p)) (member (thingsOf (take m cand)) i) (real-at i (omega (arith, many))) e
 
     pub boxes-ranged : AllRanged (boxesOf (take m cand))
     boxes-ranged =

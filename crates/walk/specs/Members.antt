@@ -12,8 +12,8 @@ use Rattle.plane.specs.declared.Box.{Box}
 use Rattle.table.specs.Table.{Table, places, Valid}
 use Rattle.verdict.specs.Rules.{AllHold}
 use Rattle.tree.specs.Rules.{treeRules}
-use Rattle.tree.specs.Tree.{Tree, Thing, place, node, thing, level, boxOf}
-use Rattle.closest.specs.Candidate.{number, member}
+use Rattle.tree.specs.Tree.{Tree, Thing, place, thing, level, boxOf}
+use Rattle.closest.specs.Candidate.{number, Good, member}
 use Rattle.walk.specs.declared.Member.{Member}
 
 -- the member that stands for a thing
@@ -59,8 +59,7 @@ thingsOf c = map thingOf c
 
 -- a thing that there is: a place of the table, or a node of the tree
 abbrev pub Real : Table → Tree → Thing → Type 0
-Real t tree (place p) = p < places t
-Real t tree (node n) = n < tree .shape .nodes
+Real t tree x = Good (places t) (tree .shape) x
 
 -- members that stand for a candidate: one for each kind, each a thing that there is, with its level and its box
 pub record Fair (t : Table) (tree : Tree) (kinds : List ℕ) (c : List Member) : Type 0 where

@@ -1,0 +1,4 @@
+-- Laws of the place sheet.
+pub mod RowLaws
+pub mod SheetLaws
+pub mod Soundings

@@ -1,0 +1,2 @@
+-- What is cited of the place sheet.
+pub mod Sheet

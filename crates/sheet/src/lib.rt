@@ -1,0 +1,1 @@
+// Theory only: the place sheet, and that it is read as it was written.

@@ -5,7 +5,7 @@ use mathlib.Core.Bool.{Bool, true, false}
 use mathlib.Core.List.{List, [], _∷_, map}
 use mathlib.Core.Option.{Option, none, some, Option·none-ne-some}
 use mathlib.Core.Logic.{_⊎_, inl, inr}
-use Prim.Native.Nat.{ℕ, zero, suc, _≤_, _<_}
+use Prim.Native.Nat.{ℕ, zero, suc, _+_, _≤_, _<_}
 use native.Mathlib.Decide.{decLe}
 use native.Mathlib.Omega.{arith}
 use lib.Dec.{eqb}
@@ -55,11 +55,12 @@ module _ (test : Thing → Bool) (c : List Thing) (i : ℕ) where
       go false p (inr q) more = more q
 
 module _ (s : Shape) where
-  pub levels-set : (c : List Thing) (i : ℕ) (y : Thing) → i < length c → level s y < level s (member c i) → levels s (set c i y) < levels s c
+  -- one member replaced changes the sum of the levels by what it changes of its own
+  pub levels-set : (c : List Thing) (i : ℕ) (y : Thing) → i < length c → levels s (set c i y) + level s (member c i) ≡ levels s c + level s y
   unfolding levels
-  levels-set [] i y h l = absurd (omega arith)
-  levels-set (x ∷ c) zero y h l = omega arith
-  levels-set (x ∷ c) (suc i) y h l = omega (arith, levels-set c i y (omega arith) l)
+  levels-set [] i y h = absurd (omega arith)
+  levels-set (x ∷ c) zero y h = omega arith
+  levels-set (x ∷ c) (suc i) y h = omega (arith, levels-set c i y (omega arith))
 
   -- a group has its candidate's numbers, and places only
   pub group-is : (c : List Thing) {g : List ℕ} → groupOf s c ≡ some g → ((i : ℕ) → level s (member c i) ≡ 0) × (g ≡ map number c)

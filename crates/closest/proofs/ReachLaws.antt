@@ -84,7 +84,8 @@ module _ {p : ℕ} {s : Shape} {holds : ℕ → Thing → Bool} (w : Sound p s h
   pub falls : (c : List Thing) → Fine p s holds kinds c → groupOf s c ≡ none → (d : List Thing) → In d (opened s holds kinds c) → levels s d < levels s c
   falls c f e d i =
       let r = of-opened c d f e i in
-      rw (r .1 .is) (levels-set s c (topmost s c) (r .0) (r .1 .inside) (entry-lower (w .linked) (r .1 .entry)))
+      let l : levels s (set c (topmost s c) (r .0)) < levels s c = omega (arith, levels-set s c (topmost s c) (r .0) (r .1 .inside), entry-lower (w .linked) (r .1 .entry)) in
+      rw (r .1 .is) l
 
   -- a group below a candidate right below is below the candidate
   up : {c d : List Thing} {y : Thing} {g : List ℕ} → Opened s holds kinds c d y → Under s holds kinds d g → Under s holds kinds c g

@@ -58,3 +58,6 @@ module _ {t : Table} {tree : Tree} (p : Passes t tree) where
 
     pub entry-listed : startOf (tree .shape) n + k < length (tree .shape .entries)
     entry-listed = omega (arith, listed, meets .counted .room .entries)
+
+    pub entry-few : startOf (tree .shape) n + k < 65536
+    entry-few = omega (arith, listed, meets .counted .all, meets .counted .few, valid-even (p .sound) .few)

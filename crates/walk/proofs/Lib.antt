@@ -8,6 +8,7 @@ pub mod LeadLaws
 pub mod MemberLaws
 pub mod TurnLaws
 pub mod EntryLaws
+pub mod RunLaws
 pub mod OpenLaws
 pub mod BridgeLaws
 pub mod RootLaws

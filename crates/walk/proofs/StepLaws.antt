@@ -4,9 +4,9 @@ use mathlib.Core.Path.{_≡_, sym, ap, _∙_}
 use mathlib.Core.Bool.{true, false}
 use mathlib.Core.List.{List, [], _∷_}
 use mathlib.Core.Option.{none}
-use Prim.Native.Nat.{ℕ, zero, suc, _+_, _≤_, _<_}
-use native.Mathlib.Nat.{suc-add, add-suc, not-suc-le-zero, le-of-suc-le-suc}
+use Prim.Native.Nat.{ℕ, suc, _+_, _≤_, _<_}
 use native.Mathlib.Numerals.{add-one}
+use native.Mathlib.Omega.{arith}
 use lib.ListN.{length, getD, drop, set, drop-of-length-le}
 use lib.Seq.{drop-cons}
 use Rattle.order.specs.Tab.{tab}
@@ -18,16 +18,14 @@ use Rattle.walks.specs.Allowance.{Stand, step, advance}
 use Rattle.walks.proofs.WalkLaws.{at-open}
 use Rattle.closest.specs.Candidate.{member, entry, entriesOf, topmost, levels, groupOf, replaced, opened, scene, tooFar}
 use Rattle.closest.specs.Walk.{holds, boxes}
+use Rattle.closest.proofs.CandidateLaws.{levels-set}
 use Rattle.walk.specs.State.{kept, walkBest}
 use Rattle.walk.specs.declared.Best.{Best}
 use Rattle.walk.proofs.AheadLaws.{ahead, ahead-none, ahead-more, step-known}
 
 -- a member is replaced by a thing one level lower
-pub levels-set : (s : Shape) (c : List Thing) (i : ℕ) (y : Thing) → i < length c → level s (member c i) ≡ suc (level s y) → levels s c ≡ suc (levels s (set c i y))
-unfolding levels
-levels-set s [] i y h q = absurd (not-suc-le-zero h)
-levels-set s (a ∷ c) zero y h q = rw q (suc-add (level s y) (levels s c))
-levels-set s (a ∷ c) (suc i) y h q = rw (levels-set s c i y (le-of-suc-le-suc h) q) (add-suc (level s a) _)
+pub one-lower : (s : Shape) (c : List Thing) (i : ℕ) (y : Thing) → i < length c → level s (member c i) ≡ suc (level s y) → levels s c ≡ suc (levels s (set c i y))
+one-lower s c i y h q = omega (arith, levels-set s c i y h)
 
 module _ (t : Table) (tree : Tree) (kinds : List ℕ) (a : ℕ) where
   -- the candidates below c are walked with one level less
@@ -40,7 +38,7 @@ module _ (t : Table) (tree : Tree) (kinds : List ℕ) (a : ℕ) where
 
   pub turn-held : (c : List Thing) (i : ℕ) (y : Thing) (ys : List Thing) (w v : Stand Best) → holds t tree (getD kinds i 0) y ≡ true → i < length c → level (tree .shape) (member c i) ≡ suc (level (tree .shape) y) → v ≡ advance a (walkBest t tree kinds (set c i y) (w .known)) w → leads c i (y ∷ ys) w ≡ leads c i ys v
   unfolding leads replaced
-  turn-held c i y ys w v h b q e = rw (replaced, h) (ahead-more a (under c) (set c i y) _ w ∙ ap (ahead a (under c) _) (rw (← levels-set (tree .shape) c i y b q) at (sym e)))
+  turn-held c i y ys w v h b q e = rw (replaced, h) (ahead-more a (under c) (set c i y) _ w ∙ ap (ahead a (under c) _) (rw (← one-lower (tree .shape) c i y b q) at (sym e)))
 
   pub turn-not : (c : List Thing) (i : ℕ) (y : Thing) (ys : List Thing) (w : Stand Best) → holds t tree (getD kinds i 0) y ≡ false → leads c i (y ∷ ys) w ≡ leads c i ys w
   unfolding leads replaced

@@ -1,7 +1,6 @@
 -- A candidate that is opened, and the candidates that come of it, as the code has them.
 -- Assumes nothing.
 use mathlib.Core.Path.{_≡_}
-use mathlib.Core.Bool.{true}
 use mathlib.Core.List.{List}
 use Prim.Native.Nat.{ℕ, _-_, _<_}
 use lib.Dec.{eqb}
@@ -10,7 +9,6 @@ use Rattle.table.specs.Table.{Table}
 use Rattle.tree.specs.Tree.{Tree, node, levelOf, startOf, countOf}
 use Rattle.closest.specs.Group.{spread}
 use Rattle.closest.specs.Candidate.{member, entry}
-use Rattle.closest.specs.Walk.{holds}
 use Rattle.walk.specs.Members.{boxesOf, without, thingsOf, Fair}
 use Rattle.walk.specs.declared.Member.{Member}
 use Rattle.walk.specs.declared.Opening.{Opening}
@@ -28,9 +26,8 @@ pub record Opens (t : Table) (tree : Tree) (kinds : List ℕ) (m : ℕ) (cand : 
   pub others : take (m - 1) (o .others) ≡ without (o .top) (boxesOf (take m cand))
   pub rest : o .rest ≡ spread (without (o .top) (boxesOf (take m cand)))
 
--- what entry k of the run gives: whether it holds the kind, and the candidate in which it replaces the member
+-- the candidate in which entry k of the run replaces the member
 pub record Goes (t : Table) (tree : Tree) (kinds : List ℕ) (m : ℕ) (cand : List Member) (o : Opening) (k : ℕ) (r : Next) : Type 0 where
-  pub holds : r .holds ≡ holds t tree (o .kind) (entry (tree .shape) (o .node) k)
-  pub fair : r .holds ≡ true → Fair t tree kinds (take m (r .cand))
-  pub is : r .holds ≡ true → thingsOf (take m (r .cand)) ≡ set (thingsOf (take m cand)) (o .top) (entry (tree .shape) (o .node) k)
-  pub spread : r .holds ≡ true → r .spread ≡ spread (boxesOf (take m (r .cand)))
+  pub fair : Fair t tree kinds (take m (r .cand))
+  pub is : thingsOf (take m (r .cand)) ≡ set (thingsOf (take m cand)) (o .top) (entry (tree .shape) (o .node) k)
+  pub spread : r .spread ≡ spread (boxesOf (take m (r .cand)))

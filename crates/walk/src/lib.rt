@@ -1,11 +1,11 @@
 // The walk: it calls itself on the candidate with one member replaced.
 ghost use mathlib.Core.Path.{_≡_};
-ghost use mathlib.Core.Bool.{true, false, _&&_, not};
+ghost use mathlib.Core.Bool.{true, false, _&&_};
 ghost use mathlib.Core.List.{List, map};
 ghost use mathlib.Core.Option.{none};
 ghost use Prim.Native.Nat.{ℕ, _+_, _-_, _≤_, _<_, max};
 ghost use lib.IntN.{ℤ};
-ghost use lib.Dec.{ltb, eqb};
+ghost use lib.Dec.{ltb};
 ghost use lib.ListN.{length, take, drop, getD, set};
 ghost use Rattle.plane.specs.Plane.{Ranged};
 ghost use Rattle.kit.specs.Kit.{held, padded};
@@ -319,6 +319,17 @@ fn kit_at(leaf: bool, e: usize, kit: &[u64], kits: &[u64]) -> u64
     kits[e]
 }
 
+// Does the entry at list index i hold a kind?
+fn holds_at(leaf: bool, i: usize, kind: usize, entries: &[u16], kit: &[u64], kits: &[u64]) -> bool
+    requires { ⌜ (i < length (now entries)) × (kind < 64) ⌝ }
+    requires { ⌜ (leaf ≡ true → getD (now entries) i 0 < length (now kit)) ⌝ }
+    requires { ⌜ (leaf ≡ false → getD (now entries) i 0 < length (now kits)) ⌝ }
+    ensures { λ r. ⌜ ((x y : List ℤ) → r ≡ held (kitOf (table x y (now (kit .entry))) (now (kits .entry)) (thing leaf (getD (now (entries .entry)) i 0))) kind) ⌝ }
+{
+    let e = tree::wide16(entries[i]);
+    kit::holds(kit_at(leaf, e, kit, kits), kind)
+}
+
 fn kind_at(kinds: [u8; 8], i: usize) -> usize
     ensures { λ r. ⌜ r ≡ getD kinds i 0 ⌝ }
 {
@@ -382,14 +393,13 @@ fn open_at(
     }
 }
 
-// What an entry gives: whether it holds the kind, and the candidate with it.
+// The candidate that an entry gives.
 pub struct Next {
-    pub holds: bool,
     pub cand: [Member; 8],
     pub spread: u64,
 }
 
-// Entry k of the run of an opened candidate.
+// The opened candidate with entry k of its run for the member.
 fn next_at(
     level: &[u8],
     start: &[u16],
@@ -418,22 +428,11 @@ fn next_at(
     ensures { λ r. ⌜ Goes (table (now (x .entry)) (now (y .entry)) (now (kit .entry))) (tree (shape nodes listed (now (level .entry)) (now (start .entry)) (now (count .entry)) (now (entries .entry))) (sides (now («x_lo» .entry)) (now («x_hi» .entry)) (now («y_lo» .entry)) (now («y_hi» .entry))) (now (kits .entry))) (take m kinds) m cand o k r ⌝ }
 {
     let e = tree::wide16(entries[o.first + k]);
-    if !kit::holds(kit_at(o.leaf, e, kit, kits), o.kind) {
-        return Next {
-            holds: false,
-            cand,
-            spread: 0,
-        };
-    }
     let b = member_at(o.leaf, e, level, x, y, x_lo, x_hi, y_lo, y_hi);
     let next = replace(cand, o.top, b);
     let others = o.others;
     let spread = farthest_of(m - 1, others, 0, b.at, o.rest);
-    Next {
-        holds: true,
-        cand: next,
-        spread,
-    }
+    Next { cand: next, spread }
 }
 
 // Takes a candidate, of which m members stand for things and whose spread is known, and all below it.
@@ -492,29 +491,30 @@ fn walk(
     );
     let mut k: usize = 0;
     while k < o.many {
-        let next = next_at(
-            level,
-            start,
-            count,
-            entries,
-            x,
-            y,
-            kit,
-            x_lo,
-            x_hi,
-            y_lo,
-            y_hi,
-            kits,
-            nodes,
-            listed,
-            kinds,
-            m,
-            cand,
-            o,
-            k,
-        );
+        let here = k;
         k += 1;
-        if next.holds {
+        if holds_at(o.leaf, o.first + here, o.kind, entries, kit, kits) {
+            let next = next_at(
+                level,
+                start,
+                count,
+                entries,
+                x,
+                y,
+                kit,
+                x_lo,
+                x_hi,
+                y_lo,
+                y_hi,
+                kits,
+                nodes,
+                listed,
+                kinds,
+                m,
+                cand,
+                o,
+                here,
+            );
             let c = next.cand;
             st = walk(
                 level,

@@ -2,7 +2,7 @@
 -- Assumes nothing.
 use mathlib.Core.Path.{_≡_, refl, ap, _∙_}
 use mathlib.Core.Bool.{Bool, true, false}
-use mathlib.Core.List.{List, [], _∷_, _++_, map}
+use mathlib.Core.List.{List, [], _∷_, map, map-append}
 use mathlib.Core.Option.{Option, none, some}
 use mathlib.Core.Logic.{inl, inr}
 use Prim.Native.Nat.{ℕ, zero, suc, _<_}
@@ -16,10 +16,6 @@ use Rattle.walks.proofs.WalkLaws.{Closed, final-append, at-drop, at-gro
 use Rattle.walks.proofs.AllowanceLaws.{within, beyond}
 
 module _ {K L : Type 0} (h : K → L) where
-  map-append : (a b : List K) → map h (a ++ b) ≡ map h a ++ map h b
-  map-append [] b = refl
-  map-append (k ∷ a) b = ap (λ l. h k ∷ l) (map-append a b)
-
   map-final : (k : K) (l : List K) → final (h k) (map h l) ≡ h (final k l)
   unfolding final
   map-final k [] = refl

@@ -1,6 +1,5 @@
 use Prim.Native.Nat.{ℕ, suc, _-_, _≤_, _<_}
-use mathlib.Core.Bool.{true}
-use mathlib.Core.Path.{_≡_, refl, sym, ap, _∙_}
+use mathlib.Core.Path.{_≡_, refl, sym, ap, ap₂, _∙_}
 use mathlib.Core.List.{List}
 use native.Mathlib.Omega.{arith}
 use borrow.Author.Needs.{needs}
@@ -13,19 +12,21 @@ use Rattle.closest.specs.Candidate.{entriesOf, entry, member, levels, topmost}
 use Rattle.closest.specs.Walk.{holds}
 use Rattle.walks.specs.Allowance.{advance}
 use Rattle.walk.specs.Members.{thingOf, thingsOf, Fair}
-use Rattle.walk.specs.Opening.{Opens, Goes}
+use Rattle.walk.specs.Opening.{Opens}
 use Rattle.walk.specs.State.{standOf, walkBest, Turned}
-use Rattle.walk.proofs.StepLaws.{leads, levels-set, again-held, again-not, ended, walk-open}
+use Rattle.walk.proofs.StepLaws.{leads, one-lower, again-held, again-not, ended, walk-open}
 use Rattle.walk.proofs.HeightLaws.{heights, fair-levels}
 use Rattle.closest.specs.Group.{spread}
 use Rattle.walk.proofs.MemberLaws.{boxes-are}
 use Rattle.walk.proofs.OpenLaws.{stand, many, placed}
-use Rattle.walk.proofs.EntryLaws.{entry-lower}
+use Rattle.walk.proofs.EntryLaws.{meets, entry-lower}
+use Rattle.walk.proofs.RunLaws.{kind-small, in-run, in-list, in-few, is-entry, reads}
 use borrow.Fn.Kinds.{In}
 use borrow.Fn.PlainCycle.{Measures, is, falls, and}
 use Rattle.walk.proofs.walk.Reads as walk
 use Rattle.walk.proofs.walk.Kinds as walk-kinds
 use Rattle.walk.proofs.+walk.Lts-walk as walk-lts
+use Rattle.walk.proofs.holds_at.Reads as holds-at-reads
 use Rattle.walk.proofs.next_at.Reads as next-at-reads
 use Rattle.walk.proofs.open_at.Reads as open-at-reads
 use Rattle.walk.proofs.take_step.Reads as take-step-reads
@@ -47,6 +48,8 @@ claims t = (
   take-step-reads.Learnt,
   open-at-reads.Asked,
   open-at-reads.Learnt,
+  holds-at-reads.Asked,
+  holds-at-reads.Learnt,
   next-at-reads.Asked,
   next-at-reads.Learnt,
   walk-below t,
@@ -74,16 +77,13 @@ abbrev Open : ℕ → Type 0
 Open t = walk-lts.After-open-at (claims t) (walk-at t) walk.Post walk-Inv-loop walk-μ-loop
 
 abbrev Round : ℕ → Type 0
-Round t = walk-lts.After-next-at (claims t) (walk-at t) walk.Post walk-Inv-loop walk-μ-loop
+Round t = walk-lts.After-holds-at (claims t) (walk-at t) walk.Post walk-Inv-loop walk-μ-loop
 
 abbrev first : (t : ℕ) → Taken t → Start t
 first t c = c .before .before .before .before .before .before .before
 
 abbrev taken : (t : ℕ) → Open t → Taken t
 taken t c = c .before .before .before .before
-
-abbrev opening : (t : ℕ) → Round t → Open t
-opening t c = c .before .before .before .before
 
 abbrev places : (t : ℕ) → Start t → Table
 places t b = table (b .args .x .now) (b .args .y .now) (b .args .kit .now)
@@ -128,12 +128,6 @@ walk-open-at-requires t c κs =
 walk-loop-holds : (t : ℕ) → walk-lts.Need-loop-holds (claims t) (walk-at t) walk.Post walk-Inv-loop walk-μ-loop
 walk-loop-holds t c = (omega arith, refl)
 
-walk-next-at-requires : (t : ℕ) → walk-lts.Need-next-at-requires (claims t) (walk-at t) walk.Post walk-Inv-loop walk-μ-loop
-walk-next-at-requires t c κs =
-    let o : Open t = c .before .before .before in
-    let b = first t (taken t o) in
-    (b .pre .1 .0, (b .pre .1 .1 .0, (b .pre .1 .1 .1 .0, (c .if2 .taken, o .open-at .ensures .1))))
-
 walk-add-k : (t : ℕ) → walk-lts.Need-add-k (claims t) (walk-at t) walk.Post walk-Inv-loop walk-μ-loop
 walk-add-k t c = search needs
 
@@ -143,9 +137,13 @@ inside t o =
     let b = first t (taken t o) in
     omega (arith, many (b .pre .1 .0) (wanted t b) (b .args .m) (b .args .cand) (long t b) (b .pre .1 .1 .1 .0), o .open-at .ensures .1 .inside)
 
-module _ (t : ℕ) (c : Round t) where
+-- the run, where its entry k is looked at
+abbrev At : ℕ → Type 0
+At t = walk-lts.After-struct-known3 (claims t) (walk-at t) walk.Post walk-Inv-loop walk-μ-loop
+
+module _ (t : ℕ) (c : At t) where
   abbrev o : Open t
-  o = opening t c
+  o = c .before .before .before .before
 
   abbrev b : Start t
   b = first t (taken t o)
@@ -159,39 +157,54 @@ module _ (t : ℕ) (c : Round t) where
   opens : Opens (places t b) (over t b) (wanted t b) (b .args .m) (b .args .cand) (o .open-at .result)
   opens = o .open-at .ensures .1
 
-  goes : Goes (places t b) (over t b) (wanted t b) (b .args .m) (b .args .cand) (o .open-at .result) k (c .next-at .result)
-  goes = c .next-at .ensures
-
-  in-run : k < countOf (over t b .shape) (o .open-at .result .node)
-  in-run = omega (arith, c .before .if2 .taken, opens .many)
+  within : k < countOf (over t b .shape) (o .open-at .result .node)
+  within = in-run (b .pre .1 .0) opens k (c .before .if2 .taken)
 
   lower : level (over t b .shape) (member (things t b) (o .open-at .result .top)) ≡ suc (level (over t b .shape) y)
-  lower = ap (level (over t b .shape)) (opens .is) ∙ entry-lower (b .pre .1 .0) (o .open-at .result .node) k (opens .there) in-run
+  lower = ap (level (over t b .shape)) (opens .is) ∙ entry-lower (b .pre .1 .0) (o .open-at .result .node) k (opens .there) within
 
-  held : c .next-at .result .holds ≡ holds (places t b) (over t b) (getD (wanted t b) (o .open-at .result .top) 0) y
-  held = goes .holds ∙ ap (λ (kind : ℕ). holds (places t b) (over t b) kind y) (opens .kind)
+walk-add-holds-at : (t : ℕ) → walk-lts.Need-add-holds-at (claims t) (walk-at t) walk.Post walk-Inv-loop walk-μ-loop
+walk-add-holds-at t c = omega (arith, in-few (b t c .pre .1 .0) (opens t c) (k t c) (c .before .if2 .taken))
 
-  fallen : c .next-at .result .holds ≡ true → heights (take (b .args .m) (c .next-at .result .cand)) < heights (take (b .args .m) (b .args .cand))
-  fallen h =
-      omega (arith, fair-levels (goes .fair h) ∙ ap (levels (over t b .shape)) (goes .is h), levels-set (over t b .shape) (things t b) (o .open-at .result .top) y (inside t o) lower, fair-levels (b .pre .1 .1 .1 .0))
+walk-holds-at-requires : (t : ℕ) → walk-lts.Need-holds-at-requires (claims t) (walk-at t) walk.Post walk-Inv-loop walk-μ-loop
+walk-holds-at-requires t c κs =
+    let p = b t c .pre .1 .0 in
+    let r = reads p (opens t c) (k t c) (c .before .if2 .taken) in
+    ((in-list p (opens t c) (k t c) (c .before .if2 .taken), kind-small (b t c .args .kinds) (b t c .args .m) (opens t c) (b t c .pre .1 .1 .0)), (λ u. r .place u .1 .1, λ u. omega (arith, r .node u, meets p .counted .room .kits)))
+
+held : (t : ℕ) (c : Round t) → c .holds-at .result ≡ holds (places t (b t (c .before))) (over t (b t (c .before))) (getD (wanted t (b t (c .before))) (o t (c .before) .open-at .result .top) 0) (y t (c .before))
+held t c =
+    let a : At t = c .before in
+    let s = b t a in
+    c .holds-at .ensures (s .args .x .now) (s .args .y .now)
+    ∙ ap₂ (λ (x : Thing) (kind : ℕ). holds (places t s) (over t s) kind x) (is-entry (s .pre .1 .0) (opens t a) (k t a) (a .before .if2 .taken)) (opens t a .kind)
+
+walk-next-at-requires : (t : ℕ) → walk-lts.Need-next-at-requires (claims t) (walk-at t) walk.Post walk-Inv-loop walk-μ-loop
+walk-next-at-requires t c κs =
+    let a : At t = c .before .before in
+    (b t a .pre .1 .0, (b t a .pre .1 .1 .0, (b t a .pre .1 .1 .1 .0, (a .before .if2 .taken, opens t a))))
 
 walk-walk-requires : (t : ℕ) → walk-lts.Need-walk-requires (claims t) (walk-at t) walk.Post walk-Inv-loop walk-μ-loop
 walk-walk-requires t c κs =
-    let r : Round t = c .before .before in
-    let h = c .before .if3 .taken in
-    (omega (arith, fallen t r h, b t r .pre .0), (b t r .pre .1 .0, (b t r .pre .1 .1 .0, (goes t r .fair h, goes t r .spread h))))
+    let a : At t = c .before .before .before .before in
+    let s = b t a in
+    let goes = c .before .next-at .ensures in
+    let fallen : heights (take (s .args .m) (c .before .next-at .result .cand)) < heights (take (s .args .m) (s .args .cand)) =
+    omega (arith, fair-levels (goes .fair) ∙ ap (levels (over t s .shape)) (goes .is), one-lower (over t s .shape) (things t s) (o t a .open-at .result .top) (y t a) (inside t (o t a)) (lower t a), fair-levels (s .pre .1 .1 .1 .0)) in
+    (omega (arith, fallen, s .pre .0), (s .pre .1 .0, (s .pre .1 .1 .0, (goes .fair, goes .spread))))
 
 walk-loop-less : (t : ℕ) → walk-lts.Need-loop-less (claims t) (walk-at t) walk.Post walk-Inv-loop walk-μ-loop
 walk-loop-less t c = search needs
 
 walk-loop-again : (t : ℕ) → walk-lts.Need-loop-again (claims t) (walk-at t) walk.Post walk-Inv-loop walk-μ-loop
 walk-loop-again t c =
-    let r : Round t = c .before .before .before in
-    let h = c .before .before .if3 .taken in
-    let st = r .before .before .before .loop .st in (
+    let r : Round t = c .before .before .before .before in
+    let a : At t = r .before in
+    let s = b t a in
+    let st = a .before .before .before .loop .st in (
       omega arith,
-      sym (again-held (places t (b t r)) (over t (b t r)) (wanted t (b t r)) (b t r .args .allowance) (things t (b t r)) (o t r .open-at .result .top) (o t r .open-at .result .node) (k t r) (standOf st) (standOf (c .walk .result)) (in-run t r) (sym (held t r) ∙ h) (inside t (o t r)) (lower t r)
-          (c .walk .ensures ∙ ap (λ (d : List Thing). advance (b t r .args .allowance) (walkBest (places t (b t r)) (over t (b t r)) (wanted t (b t r)) d (st .best)) (standOf st)) (goes t r .is h))) ∙ r .before .before .before .loop .inv .1,
+      sym (again-held (places t s) (over t s) (wanted t s) (s .args .allowance) (things t s) (o t a .open-at .result .top) (o t a .open-at .result .node) (k t a) (standOf st) (standOf (c .walk .result)) (within t a) (sym (held t r) ∙ c .before .before .before .if3 .taken) (inside t (o t a)) (lower t a)
+          (c .walk .ensures ∙ ap (λ (d : List Thing). advance (s .args .allowance) (walkBest (places t s) (over t s) (wanted t s) d (st .best)) (standOf st)) (c .before .before .next-at .ensures .is))) ∙ a .before .before .before .loop .inv .1,
     )
 
 walk-loop-less-2 : (t : ℕ) → walk-lts.Need-loop-less-2 (claims t) (walk-at t) walk.Post walk-Inv-loop walk-μ-loop
@@ -200,7 +213,9 @@ walk-loop-less-2 t c = search needs
 walk-loop-again-2 : (t : ℕ) → walk-lts.Need-loop-again-2 (claims t) (walk-at t) walk.Post walk-Inv-loop walk-μ-loop
 walk-loop-again-2 t c =
     let r : Round t = c .before in
-    (omega arith, sym (again-not (places t (b t r)) (over t (b t r)) (wanted t (b t r)) (b t r .args .allowance) (things t (b t r)) (o t r .open-at .result .top) (o t r .open-at .result .node) (k t r) (standOf (r .before .before .before .loop .st)) (in-run t r) (sym (held t r) ∙ c .if3 .left)) ∙ r .before .before .before .loop .inv .1)
+    let a : At t = r .before in
+    let s = b t a in
+    (omega arith, sym (again-not (places t s) (over t s) (wanted t s) (s .args .allowance) (things t s) (o t a .open-at .result .top) (o t a .open-at .result .node) (k t a) (standOf (a .before .before .before .loop .st)) (within t a) (sym (held t r) ∙ c .if3 .left)) ∙ a .before .before .before .loop .inv .1)
 
 -- the candidate that was opened leads over the run
 led : (t : ℕ) (o : Open t) → let b = first t (taken t o) in
@@ -232,8 +247,10 @@ pub +walk-spec : {M : Type 1} → statement M
     (walk-returns t)
     (walk-open-at-requires t)
     (walk-loop-holds t)
-    (walk-next-at-requires t)
     (walk-add-k t)
+    (walk-add-holds-at t)
+    (walk-holds-at-requires t)
+    (walk-next-at-requires t)
     (walk-walk-requires t)
     (walk-loop-less t)
     (walk-loop-again t)

@@ -1,25 +1,21 @@
-use mathlib.Core.Path.{_≡_, sym, ap, ap₂, subst, _∙_}
-use mathlib.Core.Bool.{Bool, true, false, true≢false}
+use mathlib.Core.Path.{_≡_, sym, ap, subst, _∙_}
 use mathlib.Core.List.{List}
 use Prim.Native.Nat.{ℕ, _+_, _-_, _≤_, _<_, max}
 use native.Mathlib.Omega.{arith}
-use lib.ListN.{length, take, getD, set}
-use lib.Seq.{getD-take}
+use lib.ListN.{length, take, set}
 use borrow.Author.Needs.{needs}
-use borrow.Author.Tests.{not-true, not-false}
-use Rattle.kit.specs.Kit.{held}
 use Rattle.table.specs.Table.{Table, table}
-use Rattle.tree.specs.Tree.{Tree, thing, countOf, kitOf, boxOf}
+use Rattle.tree.specs.Tree.{Tree, Thing, thing, boxOf}
 use Rattle.tree.specs.Lent.{shape, sides, tree}
 use Rattle.tree.specs.Rules.{lengths, Room}
 use Rattle.closest.specs.Group.{farthest, spread}
 use Rattle.closest.specs.Candidate.{entry}
-use Rattle.closest.specs.Walk.{holds}
 use Rattle.plane.specs.Plane.{Ranged}
 use Rattle.walk.specs.Members.{memberOf, AllRanged, boxesOf, thingsOf, Real, Fair}
 use Rattle.walk.specs.Opening.{Opens}
 use Rattle.walk.specs.declared.Member.{Member}
-use Rattle.walk.proofs.EntryLaws.{meets, ranged, Reads, reads-of, entry-listed, entry-real}
+use Rattle.walk.proofs.EntryLaws.{meets, ranged, Reads}
+use Rattle.walk.proofs.RunLaws.{in-list, is-entry, real, reads}
 use Rattle.walk.proofs.BoxesLaws.{ranged-without}
 use Rattle.walk.proofs.OpenLaws.{boxes-ranged, things-set, fair-set, spread-next}
 use Rattle.walk.proofs.next_at.Statement.{statement}
@@ -44,30 +40,21 @@ long s =
 opens : (s : tie.Start) → Opens (places s) (over s) (wanted s) (s .args .m) (s .args .cand) (s .args .o)
 opens s = s .pre .1 .1 .1 .1
 
-in-run : (s : tie.Start) → s .args .k < countOf (over s .shape) (s .args .o .node)
-in-run s = omega (arith, s .pre .1 .1 .1 .0, opens s .many)
+-- entry k of the run: where it is listed, that there is such a thing, and where its columns are read
+abbrev entryOf : tie.Start → Thing
+entryOf s = entry (over s .shape) (s .args .o .node) (s .args .k)
 
 listed : (s : tie.Start) → s .args .o .first + s .args .k < length (s .args .entries .now)
-listed s = omega (arith, opens s .first, entry-listed (s .pre .0) (s .args .o .node) (s .args .k) (opens s .there) (in-run s))
+listed s = in-list (s .pre .0) (opens s) (s .args .k) (s .pre .1 .1 .1 .0)
 
--- where the entry is known
+really : (s : tie.Start) → Real (places s) (over s) (entryOf s)
+really s = real (s .pre .0) (opens s) (s .args .k) (s .pre .1 .1 .1 .0)
+
 abbrev begin : tie.After-wide16 → tie.Start
 begin u = u .before .before .before .before .before .before .before .before .before
 
-is-entry : (u : tie.After-wide16) → let s = begin u in thing (s .args .o .leaf) (u .wide16 .result) ≡ entry (over s .shape) (s .args .o .node) (s .args .k)
-is-entry u = let s = begin u in ap (thing (s .args .o .leaf)) (u .wide16 .ensures) ∙ ap₂ (λ (b : Bool) (f : ℕ). thing b (getD (s .args .entries .now) (f + s .args .k) 0)) (opens s .leaf) (opens s .first)
-
-really : (s : tie.Start) → Real (places s) (over s) (entry (over s .shape) (s .args .o .node) (s .args .k))
-really s = entry-real (s .pre .0) (s .args .o .node) (s .args .k) (opens s .there) (in-run s)
-
-real : (u : tie.After-wide16) → let s = begin u in Real (places s) (over s) (thing (s .args .o .leaf) (u .wide16 .result))
-real u = let s = begin u in subst (Real (places s) (over s)) (sym (is-entry u)) (really s)
-
-reads : (u : tie.After-wide16) → let s = begin u in Reads (s .pre .0) (s .args .o .leaf) (u .wide16 .result)
-reads u = let s = begin u in reads-of (s .pre .0) (s .args .o .leaf) (u .wide16 .result) (real u)
-
-room : (s : tie.Start) → Room (s .args .nodes) (s .args .listed) (lengths (over s))
-room s = meets (s .pre .0) .counted .room
+is : (u : tie.After-wide16) → let s = begin u in thing (s .args .o .leaf) (u .wide16 .result) ≡ entryOf s
+is u = let s = begin u in ap (thing (s .args .o .leaf)) (u .wide16 .ensures) ∙ is-entry (s .pre .0) (opens s) (s .args .k) (s .pre .1 .1 .1 .0)
 
 add-wide16 : tie.Need-add-wide16
 add-wide16 c = omega (arith, listed (c .before .before .before .before .before .before .before))
@@ -81,73 +68,44 @@ shared-slice-read-wide16 c = listed (c .before .before .before .before .before .
 wide16-requires : tie.Need-wide16-requires
 wide16-requires c κs = search needs
 
-kit-at-requires : tie.Need-kit-at-requires
-kit-at-requires c κs = (λ u. reads c .place u .1 .1, λ u. omega (arith, reads c .node u, room (begin c) .kits))
-
-holds-requires : tie.Need-holds-requires
-holds-requires c κs =
-    let s = begin (c .before) in
-    omega (arith, opens s .kind ∙ getD-take (s .args .m) (s .args .kinds) (s .args .o .top) 0 (opens s .inside), s .pre .1 .0 .small (s .args .o .top) (opens s .inside))
-
--- whether the entry holds the kind
-says : (h : tie.After-holds) → let s = begin (h .before .before) in h .holds .result ≡ holds (places s) (over s) (s .args .o .kind) (entry (over s .shape) (s .args .o .node) (s .args .k))
-says h =
-    let s = begin (h .before .before) in
-    h .holds .ensures ∙ ap (λ (w : ℕ). held w (s .args .o .kind)) (h .before .kit-at .ensures (s .args .x .now) (s .args .y .now) ∙ ap (kitOf (places s) (s .args .kits .now)) (is-entry (h .before .before)))
-
-returns : tie.Need-returns
-returns c =
-    let h = c .before in
-    record {
-      holds = sym (not-true _ (c .if1 .taken)) ∙ says h;
-      fair = λ e. absurd (true≢false (sym e));
-      is = λ e. absurd (true≢false (sym e));
-      spread = λ e. absurd (true≢false (sym e));
-    }
-
 member-at-requires : tie.Need-member-at-requires
 member-at-requires c κs =
-    let u = c .before .before .before in
-    let r = reads u in
-    let q = room (begin u) in
+    let s = begin c in
+    let r : Reads (s .pre .0) (s .args .o .leaf) (c .wide16 .result) = subst (Reads (s .pre .0) (s .args .o .leaf)) (sym (c .wide16 .ensures)) (reads (s .pre .0) (opens s) (s .args .k) (s .pre .1 .1 .1 .0)) in
+    let q : Room (s .args .nodes) (s .args .listed) (lengths (over s)) = meets (s .pre .0) .counted .room in
     (r .small, (λ e. (r .place e .0, r .place e .1 .0), λ e. let n = r .node e in (omega (arith, q .level), (omega (arith, q .x-lo), (omega (arith, q .x-hi), (omega (arith, q .y-lo), omega (arith, q .y-hi)))))))
 
 replace-requires : tie.Need-replace-requires
 replace-requires c κs = search needs
 
 -- the member that stands for the entry
-is-member : (b : tie.After-member-at) → let s = begin (b .before .before .before .before) in b .member-at .result ≡ memberOf (places s) (over s) (entry (over s .shape) (s .args .o .node) (s .args .k))
+is-member : (b : tie.After-member-at) → let s = begin (b .before) in b .member-at .result ≡ memberOf (places s) (over s) (entryOf s)
 is-member b =
-    let u = b .before .before .before .before in
-    let s = begin u in
-    b .member-at .ensures (s .args .nodes) (s .args .listed) (s .args .start .now) (s .args .count .now) (s .args .entries .now) (s .args .kit .now) (s .args .kits .now) ∙ ap (memberOf (places s) (over s)) (is-entry u)
+    let s = begin (b .before) in
+    b .member-at .ensures (s .args .nodes) (s .args .listed) (s .args .start .now) (s .args .count .now) (s .args .entries .now) (s .args .kit .now) (s .args .kits .now) ∙ ap (memberOf (places s) (over s)) (is (b .before))
 
 sub-farthest-of : tie.Need-sub-farthest-of
-sub-farthest-of c =
-    let b : tie.After-member-at = c .before .before in
-    begin (b .before .before .before .before) .pre .1 .0 .some
+sub-farthest-of c = begin (c .before .before .before) .pre .1 .0 .some
 
 farthest-of-requires : tie.Need-farthest-of-requires
 farthest-of-requires c κs =
     let b : tie.After-member-at = c .before .before in
-    let s = begin (b .before .before .before .before) in
+    let s = begin (b .before) in
     let r = boxes-ranged (s .pre .0) (wanted s) (s .args .m) (s .args .cand) (long s) (s .pre .1 .1 .0) in
     let others = subst AllRanged (sym (opens s .others)) (ranged-without (boxesOf (take (s .args .m) (s .args .cand))) (s .args .o .top) r) in
-    (omega (arith, s .pre .1 .0 .most), (others, subst (λ (a : Member). Ranged (a .at)) (sym (is-member b)) (ranged (s .pre .0) (entry (over s .shape) (s .args .o .node) (s .args .k)) (really s))))
+    (omega (arith, s .pre .1 .0 .most), (others, subst (λ (a : Member). Ranged (a .at)) (sym (is-member b)) (ranged (s .pre .0) (entryOf s) (really s))))
 
-returns-2 : tie.Need-returns-2
-returns-2 c =
+returns : tie.Need-returns
+returns c =
     let p : tie.After-replace = c .before .before in
     let b : tie.After-member-at = p .before in
-    let s = begin (b .before .before .before .before) in
-    let y = entry (over s .shape) (s .args .o .node) (s .args .k) in
-    let is : p .replace .result ≡ set (s .args .cand) (s .args .o .top) (memberOf (places s) (over s) y) = p .replace .ensures ∙ ap (set (s .args .cand) (s .args .o .top)) (is-member b) in
-    let far : c .farthest-of .result ≡ max (s .args .o .rest) (farthest (boxOf (places s) (over s .sides) y) (take (s .args .m - 1) (s .args .o .others))) = c .farthest-of .ensures ∙ ap (λ (a : Member). max (s .args .o .rest) (farthest (a .at) (take (s .args .m - 1) (s .args .o .others)))) (is-member b) in
+    let s = begin (b .before) in
+    let is : p .replace .result ≡ set (s .args .cand) (s .args .o .top) (memberOf (places s) (over s) (entryOf s)) = p .replace .ensures ∙ ap (set (s .args .cand) (s .args .o .top)) (is-member b) in
+    let far : c .farthest-of .result ≡ max (s .args .o .rest) (farthest (boxOf (places s) (over s .sides) (entryOf s)) (take (s .args .m - 1) (s .args .o .others))) = c .farthest-of .ensures ∙ ap (λ (a : Member). max (s .args .o .rest) (farthest (a .at) (take (s .args .m - 1) (s .args .o .others)))) (is-member b) in
     record {
-      holds = sym (not-false _ (b .before .if1 .left)) ∙ says (b .before .before);
-      fair = λ _. subst (λ (d : List Member). Fair (places s) (over s) (wanted s) (take (s .args .m) d)) (sym is) (fair-set (s .pre .0) (wanted s) (s .args .m) (s .args .cand) (long s) (s .pre .1 .1 .0) (s .args .o .top) y (opens s .inside) (really s));
-      is = λ _. ap (λ (d : List Member). thingsOf (take (s .args .m) d)) is ∙ things-set (s .pre .0) (wanted s) (s .args .m) (s .args .cand) (long s) (s .pre .1 .1 .0) (s .args .o .top) y (opens s .inside) (really s);
-      spread = λ _. spread-next (s .pre .0) (wanted s) (s .args .m) (s .args .cand) (long s) (s .pre .1 .1 .0) (s .args .o .top) y (opens s .inside) (really s) (c .farthest-of .result) (s .args .o .rest) (take (s .args .m - 1) (s .args .o .others)) (opens s .others) (opens s .rest) far ∙ ap (λ (d : List Member). spread (boxesOf (take (s .args .m) d))) (sym is);
+      fair = subst (λ (d : List Member). Fair (places s) (over s) (wanted s) (take (s .args .m) d)) (sym is) (fair-set (s .pre .0) (wanted s) (s .args .m) (s .args .cand) (long s) (s .pre .1 .1 .0) (s .args .o .top) (entryOf s) (opens s .inside) (really s));
+      is = ap (λ (d : List Member). thingsOf (take (s .args .m) d)) is ∙ things-set (s .pre .0) (wanted s) (s .args .m) (s .args .cand) (long s) (s .pre .1 .1 .0) (s .args .o .top) (entryOf s) (opens s .inside) (really s);
+      spread = spread-next (s .pre .0) (wanted s) (s .args .m) (s .args .cand) (long s) (s .pre .1 .1 .0) (s .args .o .top) (entryOf s) (opens s .inside) (really s) (c .farthest-of .result) (s .args .o .rest) (take (s .args .m - 1) (s .args .o .others)) (opens s .others) (opens s .rest) far ∙ ap (λ (d : List Member). spread (boxesOf (take (s .args .m) d))) (sym is);
     }
 
 pub next-at-spec : {M : Type 1} → statement M
@@ -158,11 +116,8 @@ next-at-spec =
     mul-wide16
     shared-slice-read-wide16
     wide16-requires
-    kit-at-requires
-    holds-requires
-    returns
     member-at-requires
     replace-requires
     sub-farthest-of
     farthest-of-requires
-    returns-2)
+    returns)

@@ -32,7 +32,7 @@ skip-suc i k = go (decLt k i)
     go (yes h) = rw (skip-below i k h, skip-below (suc i) (suc k) (omega arith))
     go (no h) = rw (skip-above i k (omega arith), skip-above (suc i) (suc k) (omega arith))
 
-skip-le : (i k : ℕ) → skip i k ≤ k + 1
+pub skip-le : (i k : ℕ) → skip i k ≤ k + 1
 skip-le i k = go (decLt k i)
   where
     go : Dec (k < i) → skip i k ≤ k + 1

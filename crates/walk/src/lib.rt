@@ -6,7 +6,7 @@ ghost use mathlib.Core.Option.{none};
 ghost use Prim.Native.Nat.{ℕ, _+_, _-_, _≤_, _<_, max};
 ghost use lib.IntN.{ℤ};
 ghost use lib.Dec.{ltb};
-ghost use lib.ListN.{length, take, drop, getD, set};
+ghost use lib.ListN.{length, take, drop, getD};
 ghost use Rattle.plane.specs.Plane.{Ranged};
 ghost use Rattle.kit.specs.Kit.{held, padded};
 ghost use Rattle.table.specs.Table.{Table, table};
@@ -17,7 +17,7 @@ ghost use Rattle.closest.specs.Group;
 ghost use Rattle.closest.specs.Group.{farthest, spread};
 ghost use Rattle.closest.specs.Walk.{boxes, begins, standsAt};
 ghost use Rattle.closest.specs.Candidate.{topmost, boxesIn, groupOf};
-ghost use Rattle.walk.specs.Members.{memberOf, membersOf, Placed, nobody, boxesOf, without, skip, AllRanged, thingsOf, Fair, Few, Passes};
+ghost use Rattle.walk.specs.Members.{memberOf, membersOf, Placed, boxesOf, without, skip, AllRanged, thingsOf, Fair, Few, Passes};
 ghost use Rattle.walk.specs.Opening.{Opens, Goes};
 ghost use Rattle.walk.specs.State.{improved, Turned, standOf, stateOf, walkBest};
 ghost use Rattle.walks.specs.Allowance.{advance};
@@ -49,42 +49,16 @@ fn larger(a: u64, b: u64) -> u64
     if a < b { b } else { a }
 }
 
-// The member at i.
-fn pick(cand: [Member; 8], i: usize) -> Member
-    ensures { λ r. ⌜ r ≡ getD cand i nobody ⌝ }
-{
-    if i < 8 {
-        return cand[i];
-    }
-    let none = plane::Span { lo: 0, hi: 0 };
-    Member {
-        level: 0,
-        number: 0,
-        at: plane::Box { x: none, y: none },
-    }
-}
-
-// The candidate with member i replaced.
-fn replace(cand: [Member; 8], i: usize, a: Member) -> [Member; 8]
-    ensures { λ r. ⌜ r ≡ set cand i a ⌝ }
-{
-    let mut c = cand;
-    if i < 8 {
-        c[i] = a;
-    }
-    c
-}
-
 // The leftmost member of the highest level.
 fn find_topmost(m: usize, cand: [Member; 8]) -> usize
     requires { ⌜ m ≤ 8 ⌝ }
-    ensures { λ r. ⌜ ((t : Table) (w : Tree) (c : List Thing) → take m cand ≡ membersOf t w c → r ≡ topmost (w .shape) c) ⌝ }
+    ensures { λ r. ⌜ (r < 8) × ((t : Table) (w : Tree) (c : List Thing) → take m cand ≡ membersOf t w c → r ≡ topmost (w .shape) c) ⌝ }
 {
     let mut i: usize = 0;
     let mut most: u8 = 0;
     let mut j: usize = 0;
     while j < m {
-        let a = pick(cand, j);
+        let a = cand[j];
         let here = j;
         j += 1;
         if most < a.level {
@@ -105,7 +79,7 @@ fn others_of(m: usize, cand: [Member; 8], i: usize) -> [plane::Box; 8]
     let mut r = [nowhere; 8];
     let mut k: usize = 0;
     while k + 1 < m {
-        let c = pick(cand, skipping(i, k));
+        let c = cand[skipping(i, k)];
         let at = c.at;
         r[k] = at;
         k += 1;
@@ -158,7 +132,7 @@ fn places_of(m: usize, cand: [Member; 8]) -> [u16; 8]
     let mut r = [0u16; 8];
     let mut i: usize = 0;
     while i < m {
-        let a = pick(cand, i);
+        let a = cand[i];
         r[i] = a.number;
         i += 1;
     }
@@ -268,7 +242,7 @@ fn take_step(m: usize, allowance: u32, cand: [Member; 8], spread: u64, s: State)
         return turn_of(steps + 1, best, false, 0);
     }
     let top = find_topmost(m, cand);
-    let a = pick(cand, top);
+    let a = cand[top];
     if a.level == 0 {
         let better = improve(places_of(m, cand), spread, best);
         return turn_of(steps + 1, better, false, 0);
@@ -378,7 +352,7 @@ fn open_at(
     requires { ⌜ (top ≡ topmost ((tree (shape nodes listed (now level) (now start) (now count) (now entries)) (sides (now «x_lo») (now «x_hi») (now «y_lo») (now «y_hi»)) (now kits)) .shape) (thingsOf (take m cand))) × (groupOf ((tree (shape nodes listed (now level) (now start) (now count) (now entries)) (sides (now «x_lo») (now «x_hi») (now «y_lo») (now «y_hi»)) (now kits)) .shape) (thingsOf (take m cand)) ≡ none) ⌝ }
     ensures { λ r. ⌜ (r .top ≡ top) × Opens (table (now (x .entry)) (now (y .entry)) (now (kit .entry))) (tree (shape nodes listed (now (level .entry)) (now (start .entry)) (now (count .entry)) (now (entries .entry))) (sides (now («x_lo» .entry)) (now («x_hi» .entry)) (now («y_lo» .entry)) (now («y_hi» .entry))) (now (kits .entry))) (take m kinds) m cand r ⌝ }
 {
-    let a = pick(cand, top);
+    let a = cand[top];
     let n = tree::wide16(a.number);
     let others = others_of(m, cand, top);
     Opening {
@@ -429,7 +403,9 @@ fn next_at(
 {
     let e = tree::wide16(entries[o.first + k]);
     let b = member_at(o.leaf, e, level, x, y, x_lo, x_hi, y_lo, y_hi);
-    let next = replace(cand, o.top, b);
+    let top = o.top;
+    let mut next = cand;
+    next[top] = b;
     let others = o.others;
     let spread = farthest_of(m - 1, others, 0, b.at, o.rest);
     Next { cand: next, spread }

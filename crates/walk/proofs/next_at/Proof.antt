@@ -75,8 +75,11 @@ member-at-requires c κs =
     let q : Room (s .args .nodes) (s .args .listed) (lengths (over s)) = meets (s .pre .0) .counted .room in
     (r .small, (λ e. (r .place e .0, r .place e .1 .0), λ e. let n = r .node e in (omega (arith, q .level), (omega (arith, q .x-lo), (omega (arith, q .x-hi), (omega (arith, q .y-lo), omega (arith, q .y-hi)))))))
 
-replace-requires : tie.Need-replace-requires
-replace-requires c κs = search needs
+mul-next : tie.Need-mul-next
+mul-next c = let s = begin (c .before) in omega (arith, opens s .inside, s .pre .1 .0 .most)
+
+array-set-from-next : tie.Need-array-set-from-next
+array-set-from-next c = let s = begin (c .before) in omega (arith, opens s .inside, s .pre .1 .0 .most)
 
 -- the member that stands for the entry
 is-member : (b : tie.After-member-at) → let s = begin (b .before) in b .member-at .result ≡ memberOf (places s) (over s) (entryOf s)
@@ -85,11 +88,11 @@ is-member b =
     b .member-at .ensures (s .args .nodes) (s .args .listed) (s .args .start .now) (s .args .count .now) (s .args .entries .now) (s .args .kit .now) (s .args .kits .now) ∙ ap (memberOf (places s) (over s)) (is (b .before))
 
 sub-farthest-of : tie.Need-sub-farthest-of
-sub-farthest-of c = begin (c .before .before .before) .pre .1 .0 .some
+sub-farthest-of c = begin (c .before .before) .pre .1 .0 .some
 
 farthest-of-requires : tie.Need-farthest-of-requires
 farthest-of-requires c κs =
-    let b : tie.After-member-at = c .before .before in
+    let b : tie.After-member-at = c .before in
     let s = begin (b .before) in
     let r = boxes-ranged (s .pre .0) (wanted s) (s .args .m) (s .args .cand) (long s) (s .pre .1 .1 .0) in
     let others = subst AllRanged (sym (opens s .others)) (ranged-without (boxesOf (take (s .args .m) (s .args .cand))) (s .args .o .top) r) in
@@ -97,10 +100,9 @@ farthest-of-requires c κs =
 
 returns : tie.Need-returns
 returns c =
-    let p : tie.After-replace = c .before .before in
-    let b : tie.After-member-at = p .before in
+    let b : tie.After-member-at = c .before .before in
     let s = begin (b .before) in
-    let is : p .replace .result ≡ set (s .args .cand) (s .args .o .top) (memberOf (places s) (over s) (entryOf s)) = p .replace .ensures ∙ ap (set (s .args .cand) (s .args .o .top)) (is-member b) in
+    let is : set (s .args .cand) (s .args .o .top) (b .member-at .result) ≡ set (s .args .cand) (s .args .o .top) (memberOf (places s) (over s) (entryOf s)) = ap (set (s .args .cand) (s .args .o .top)) (is-member b) in
     let far : c .farthest-of .result ≡ max (s .args .o .rest) (farthest (boxOf (places s) (over s .sides) (entryOf s)) (take (s .args .m - 1) (s .args .o .others))) = c .farthest-of .ensures ∙ ap (λ (a : Member). max (s .args .o .rest) (farthest (a .at) (take (s .args .m - 1) (s .args .o .others)))) (is-member b) in
     record {
       fair = subst (λ (d : List Member). Fair (places s) (over s) (wanted s) (take (s .args .m) d)) (sym is) (fair-set (s .pre .0) (wanted s) (s .args .m) (s .args .cand) (long s) (s .pre .1 .1 .0) (s .args .o .top) (entryOf s) (opens s .inside) (really s));
@@ -117,7 +119,8 @@ next-at-spec =
     shared-slice-read-wide16
     wide16-requires
     member-at-requires
-    replace-requires
+    mul-next
+    array-set-from-next
     sub-farthest-of
     farthest-of-requires
     returns)

@@ -1,6 +1,6 @@
 use mathlib.Core.Path.{_≡_, refl, sym, ap, subst, _∙_}
 use mathlib.Core.List.{List}
-use Prim.Native.Nat.{ℕ, _-_, _≤_, _<_}
+use Prim.Native.Nat.{ℕ, _≤_, _<_}
 use native.Mathlib.Omega.{arith}
 use lib.ListN.{length, take, getD}
 use lib.Seq.{getD-take}
@@ -9,7 +9,6 @@ use borrow.Author.Needs.{needs}
 use Rattle.table.specs.Table.{Table, table}
 use Rattle.tree.specs.Tree.{Tree, node, levelOf}
 use Rattle.tree.specs.Rules.{lengths, Room}
-use Rattle.walk.specs.declared.Member.{Member}
 use Rattle.tree.specs.Lent.{shape, sides, tree}
 use Rattle.closest.specs.Group.{spread}
 use Rattle.walk.specs.Members.{AllRanged, nobody, boxesOf}
@@ -34,27 +33,34 @@ over s =
 abbrev wanted : tie.Start → List ℕ
 wanted s = take (s .args .m) (s .args .kinds)
 
-long : (s : tie.Start) → s .args .m ≤ length (s .args .cand)
+long : (s : tie.Start) → s .args .m ≤ length (s .args .t17)
 long s =
-    let eight : length (s .args .cand) ≡ 8 = search needs in
+    let eight : length (s .args .t17) ≡ 8 = search needs in
     omega (arith, s .pre .1 .0 .most)
 
 inside : (s : tie.Start) → s .args .top < s .args .m
-inside s = top-inside (s .pre .0) (wanted s) (s .args .m) (s .args .cand) (long s) (s .pre .1 .1 .0) (s .args .top) (s .pre .1 .1 .1 .0) (s .pre .1 .1 .1 .1)
+inside s = top-inside (s .pre .0) (wanted s) (s .args .m) (s .args .t17) (long s) (s .pre .1 .1 .0) (s .args .top) (s .pre .1 .1 .1 .0) (s .pre .1 .1 .1 .1)
 
-number : (u : tie.After-wide16) → u .wide16 .result ≡ getD (begin u .args .cand) (begin u .args .top) nobody .number
-number u = u .wide16 .ensures ∙ ap (λ (a : Member). a .number) (u .before .pick .ensures)
+number : (u : tie.After-wide16) → u .wide16 .result ≡ getD (begin u .args .t17) (begin u .args .top) nobody .number
+number u = u .wide16 .ensures
 
 there : (u : tie.After-wide16) → u .wide16 .result < begin u .args .nodes
 there u =
     let s = begin u in
-    omega (arith, number u, top-there (s .pre .0) (wanted s) (s .args .m) (s .args .cand) (long s) (s .pre .1 .1 .0) (s .args .top) (s .pre .1 .1 .1 .0) (s .pre .1 .1 .1 .1))
+    omega (arith, number u, top-there (s .pre .0) (wanted s) (s .args .m) (s .args .t17) (long s) (s .pre .1 .1 .0) (s .args .top) (s .pre .1 .1 .1 .0) (s .pre .1 .1 .1 .1))
 
 room : (s : tie.Start) → Room (s .args .nodes) (s .args .listed) (lengths (over s))
 room s = meets (s .pre .0) .counted .room
 
-pick-requires : tie.Need-pick-requires
-pick-requires c κs = search needs
+mul-a : tie.Need-mul-a
+mul-a c =
+    let s : tie.Start = c .before .before .before .before .before .before in
+    omega (arith, inside s, s .pre .1 .0 .most)
+
+array-copy-out-a : tie.Need-array-copy-out-a
+array-copy-out-a c =
+    let s : tie.Start = c .before .before .before .before .before .before in
+    omega (arith, inside s, s .pre .1 .0 .most)
 
 wide16-requires : tie.Need-wide16-requires
 wide16-requires c κs = search needs
@@ -93,7 +99,7 @@ spread-of-requires : tie.Need-spread-of-requires
 spread-of-requires c κs =
     let o : tie.After-others-of = c .before .before .before .before .before .before in
     let s = begin (o .before) in
-    (omega (arith, s .pre .1 .0 .most), subst AllRanged (sym (o .others-of .ensures)) (ranged-without (boxesOf (take (s .args .m) (s .args .cand))) (s .args .top) (boxes-ranged (s .pre .0) (wanted s) (s .args .m) (s .args .cand) (long s) (s .pre .1 .1 .0))))
+    (omega (arith, s .pre .1 .0 .most), subst AllRanged (sym (o .others-of .ensures)) (ranged-without (boxesOf (take (s .args .m) (s .args .t17))) (s .args .top) (boxes-ranged (s .pre .0) (wanted s) (s .args .m) (s .args .t17) (long s) (s .pre .1 .1 .0))))
 
 returns : tie.Need-returns
 returns c =
@@ -103,11 +109,11 @@ returns c =
       refl,
       record {
         inside = inside s;
-        is = top-node (s .pre .0) (wanted s) (s .args .m) (s .args .cand) (long s) (s .pre .1 .1 .0) (s .args .top) (s .pre .1 .1 .1 .0) (s .pre .1 .1 .1 .1) ∙ ap node (sym (number u));
+        is = top-node (s .pre .0) (wanted s) (s .args .m) (s .args .t17) (long s) (s .pre .1 .1 .0) (s .args .top) (s .pre .1 .1 .1 .0) (s .pre .1 .1 .1 .1) ∙ ap node (sym (number u));
         there = there u;
         kind = c .before .before .before .before .before .before .kind-at .ensures ∙ sym (getD-take (s .args .m) (s .args .kinds) (s .args .top) 0 (inside s));
         leaf = ap (λ (l : ℕ). eqb l 1)
-            (ap (λ (a : Member). a .level) (u .before .pick .ensures) ∙ top-level (s .pre .0) (wanted s) (s .args .m) (s .args .cand) (long s) (s .pre .1 .1 .0) (s .args .top) (s .pre .1 .1 .1 .0) (s .pre .1 .1 .1 .1) ∙ ap (levelOf (over s .shape)) (sym (number u)));
+            (top-level (s .pre .0) (wanted s) (s .args .m) (s .args .t17) (long s) (s .pre .1 .1 .0) (s .args .top) (s .pre .1 .1 .1 .0) (s .pre .1 .1 .1 .1) ∙ ap (levelOf (over s .shape)) (sym (number u)));
         first = c .before .before .before .wide162 .ensures;
         many = c .before .wide8 .ensures;
         others = o .others-of .ensures;
@@ -119,7 +125,8 @@ pub open-at-spec : {M : Type 1} → statement M
 open-at-spec =
     tie.close
     (tie.spec
-    pick-requires
+    mul-a
+    array-copy-out-a
     wide16-requires
     others-of-requires
     kind-at-requires

@@ -20,8 +20,11 @@ loop-holds : tie.Need-loop-holds Inv-loop μ-loop
 unfolding padded
 loop-holds c = (omega arith, refl)
 
-pick-requires : tie.Need-pick-requires Inv-loop μ-loop
-pick-requires c κs = tt
+mul-a : tie.Need-mul-a Inv-loop μ-loop
+mul-a c = omega arith
+
+array-copy-out-a : tie.Need-array-copy-out-a Inv-loop μ-loop
+array-copy-out-a c = omega arith
 
 mul-r : tie.Need-mul-r Inv-loop μ-loop
 mul-r c = omega arith
@@ -39,15 +42,15 @@ loop-again : tie.Need-loop-again Inv-loop μ-loop
 loop-again c =
     let l = c .before .before .loop in
     let a = c .before .before .before .args in
-    let eight-of : length (a .cand) ≡ 8 = search needs in
-    (omega arith, rw (l .inv .1) (padded-more (a .cand) (l .i) (c .pick .result .number) eight-of (omega arith) (ap (λ q. q .number) (c .pick .ensures))))
+    let eight-of : length (a .t2) ≡ 8 = search needs in
+    (omega arith, rw (l .inv .1) (padded-more (a .t2) (l .i) _ eight-of (omega arith) refl))
 
 returns : tie.Need-returns Inv-loop μ-loop
 returns c =
     let l = c .before .loop in
     let a = c .before .before .args in
     let e : l .i ≡ a .m = omega arith in
-    l .inv .1 ∙ ap (λ (k : ℕ). padded (numbers (take k (a .cand)))) e
+    l .inv .1 ∙ ap (λ (k : ℕ). padded (numbers (take k (a .t2)))) e
 
 pub places-of-spec : {M : Type 1} → statement M
 places-of-spec =
@@ -56,7 +59,8 @@ places-of-spec =
     Inv-loop
     μ-loop
     loop-holds
-    pick-requires
+    mul-a
+    array-copy-out-a
     mul-r
     array-write-r
     add-i

@@ -46,25 +46,28 @@ returns-3 c = λ t w kinds d e many placed q.
     rw (c .turn-of .ensures) (turned-drop t w kinds _ d _ (x .before .before .if1 .left) (x .before .if2 .left) (test x t w kinds d q ∙ c .before .if3 .taken))
 
 -- the members stand for a candidate, and the level read is its topmost's
-for : (s : tie.Start) (t : Table) (w : Tree) (d : List Thing) → take (s .args .m) (s .args .cand) ≡ membersOf t w d → StandFor t w (s .args .m) (s .args .cand) d
-for s t w d e = let eight : length (s .args .cand) ≡ 8 = search needs in record { long = omega arith; so = e }
+for : (s : tie.Start) (t : Table) (w : Tree) (d : List Thing) → take (s .args .m) (s .args .t3) ≡ membersOf t w d → StandFor t w (s .args .m) (s .args .t3) d
+for s t w d e = let eight : length (s .args .t3) ≡ 8 = search needs in record { long = omega arith; so = e }
 
-top : (c : tie.After-pick) (t : Table) (w : Tree) (d : List Thing) →
-    let a = c .before .before .before .before .before .before .before .args in
-    take (a .m) (a .cand) ≡ membersOf t w d → level (w .shape) (member d (topmost (w .shape) d)) ≡ c .pick .result .level
+top : (c : tie.After-find-topmost) (t : Table) (w : Tree) (d : List Thing) →
+    let a = c .before .before .before .before .before .before .args in
+    take (a .m) (a .t3) ≡ membersOf t w d → level (w .shape) (member d (topmost (w .shape) d)) ≡ getD (a .t3) (c .find-topmost .result) nobody .level
 top c t w d e =
-    let s = c .before .before .before .before .before .before .before in
+    let s = c .before .before .before .before .before .before in
     let f = for s t w d e in
     let i = topmost (w .shape) d in
     let below : i < length d = topmost-below (w .shape) d (omega (arith, size f)) in
-    let read = c .pick .ensures ∙ ap (λ (n : ℕ). getD (s .args .cand) n nobody) (c .before .find-topmost .ensures t w d e) in
+    let read = ap (λ (n : ℕ). getD (s .args .t3) n nobody) (c .find-topmost .ensures .1 t w d e) in
     ap (λ q. q .level) (sym (read ∙ stands-at f i (omega (arith, size f))))
 
 find-topmost-requires : tie.Need-find-topmost-requires
 find-topmost-requires c κs = omega arith
 
-pick-requires : tie.Need-pick-requires
-pick-requires c κs = tt
+mul-a : tie.Need-mul-a
+mul-a c = omega (arith, c .find-topmost .ensures .0)
+
+array-copy-out-a : tie.Need-array-copy-out-a
+array-copy-out-a c = omega (arith, c .find-topmost .ensures .0)
 
 places-of-requires : tie.Need-places-of-requires
 places-of-requires c κs = omega arith
@@ -81,13 +84,13 @@ turn-of-requires-2 c κs = tt
 returns-4 : tie.Need-returns-4
 returns-4 c = λ t w kinds d e many placed q.
     let k = c .before .before .before in
-    let p = k .before .before in
-    let x = p .before .before .before in
+    let p = k .before .before .before in
+    let x = p .before .before in
     let s = x .before .before .before .before in
     let zero = top p t w d e ∙ k .if4 .taken in
     let better = c .before .improve .ensures ∙ ap₂ (λ (g : List ℕ) (n : ℕ). improved g n (s .args .s .best)) (c .before .before .places-of .ensures ∙ ap padded (numbers-are (for s t w d e))) (q ∙ whole-spread t w kinds d many placed zero) in
     rw (c .turn-of2 .ensures)
-    (turned-group t w kinds _ d _ (x .before .before .if1 .left) (x .before .if2 .left) (test x t w kinds d q ∙ p .before .before .if3 .left) (group-of (w .shape) d zero) better)
+    (turned-group t w kinds _ d _ (x .before .before .if1 .left) (x .before .if2 .left) (test x t w kinds d q ∙ p .before .if3 .left) (group-of (w .shape) d zero) better)
 
 add-turn-of-3 : tie.Need-add-turn-of-3
 add-turn-of-3 c = omega arith
@@ -98,11 +101,11 @@ turn-of-requires-3 c κs = tt
 returns-5 : tie.Need-returns-5
 returns-5 c = λ t w kinds d e many placed q.
     let k = c .before in
-    let p = k .before .before in
-    let x = p .before .before .before in
+    let p = k .before .before .before in
+    let x = p .before .before in
     rw (c .turn-of3 .ensures)
-    (turned-open t w kinds _ d _ (x .before .before .if1 .left) (x .before .if2 .left) (test x t w kinds d q ∙ p .before .before .if3 .left)
-    (no-group (w .shape) d (λ z. k .if4 .left (sym (top p t w d e) ∙ z))) (p .before .find-topmost .ensures t w d e))
+    (turned-open t w kinds _ d _ (x .before .before .if1 .left) (x .before .if2 .left) (test x t w kinds d q ∙ p .before .if3 .left)
+    (no-group (w .shape) d (λ z. k .if4 .left (sym (top p t w d e) ∙ z))) (p .find-topmost .ensures .1 t w d e))
 
 pub take-step-spec : {M : Type 1} → statement M
 take-step-spec =
@@ -115,7 +118,8 @@ take-step-spec =
     turn-of-requires
     returns-3
     find-topmost-requires
-    pick-requires
+    mul-a
+    array-copy-out-a
     places-of-requires
     improve-requires
     add-turn-of-2

@@ -59,17 +59,17 @@ module _ (t : Table) (tree : Tree) (want allowance : ℕ) (h : AllHold (searchRu
   Gives r = r ≡ searched t tree want allowance
 
   sound : Sound t tree want
-  sound = sound-of t tree want allowance h
+  sound = sound-of t tree want h
 
   met : Meets t tree
   met = meets (sound .passes)
 
   -- there is no group
   pub gives-none : begins t tree (kinds want) ≡ false → Gives (refused 31 0)
-  gives-none b = searched-none t tree want allowance (sym (all-hold (searchRules t tree want) h)) refl b
+  gives-none b = searched-none t tree want allowance sound b
 
   walks : begins t tree (kinds want) ≡ true → {s : Stand (Option (List ℕ))} → s ≡ standsAt t tree (kinds want) allowance → outcome (stateOf t s) ≡ searched t tree want allowance
-  walks b e = ap (λ (s : Stand (Option (List ℕ))). outcome (stateOf t s)) e ∙ searched-walk t tree want allowance (sym (all-hold (searchRules t tree want) h)) refl b
+  walks b e = ap (λ (s : Stand (Option (List ℕ))). outcome (stateOf t s)) e ∙ searched-walk t tree want allowance sound b
 
   -- the walk needs more than the allowance: the best known after exactly that many steps is named
   pub gives-spent : begins t tree (kinds want) ≡ true → allowance < steps → Gives (said 32 (stateOf t (stand allowance true (final none (take allowance (wholeWalk t tree (kinds want)))))))

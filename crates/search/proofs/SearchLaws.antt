@@ -6,20 +6,21 @@ use mathlib.Core.List.{List, [], _∷_, _++_}
 use Prim.Native.Nat.{ℕ, _≤_, _<_}
 use native.Mathlib.Omega.{arith}
 use lib.ListN.{length, take, getD, List·getD-append}
-use borrow.Author.Tests.{eq-eqb, ne-eqb, lt-ltb, le-ltb}
+use borrow.Author.Tests.{ne-eqb, lt-ltb, le-ltb}
 use Rattle.kit.specs.Kit.{kinds, allHeld, padded}
 use Rattle.kit.proofs.KindLaws.{kinds-member}
 use Rattle.table.specs.Table.{Table}
 use Rattle.tree.specs.Tree.{Tree, node, kitOf}
+use Rattle.tree.specs.Rules.{checkRules}
 use Rattle.verdict.specs.Rules.{AllHold, verdict}
 use Rattle.verdict.specs.declared.Verdict.{Verdict}
-use Rattle.verdict.proofs.RuleLaws.{none-broken}
+use Rattle.verdict.proofs.RuleLaws.{none-broken, all-hold, passed, stopped}
 use Rattle.closest.specs.Walk.{begins, standsAt}
 use Rattle.closest.proofs.AnswerLaws.{member-of}
 use Rattle.walk.specs.Members.{Few, Passes}
 use Rattle.walk.specs.State.{stateOf}
 use Rattle.walk.specs.declared.State.{State}
-use Rattle.search.specs.Search.{searchRules, refused, said, outcome, searched}
+use Rattle.search.specs.Search.{queryRules, searchRules, refused, said, outcome, searched}
 
 -- what the rules leave known
 pub record Sound (t : Table) (tree : Tree) (want : ℕ) : Type 0 where
@@ -66,7 +67,7 @@ few-of want some few = record {
   small = λ i l. subst (λ (k : ℕ). k < 64) (sym (List·getD-append (kinds want) _ 0 i l)) (kinds-member want (getD (kinds want) i 0) .0 (member-of (kinds want) i l) .0);
 }
 
-module _ (t : Table) (tree : Tree) (want allowance : ℕ) where
+module _ (t : Table) (tree : Tree) (want : ℕ) where
   pub sound-of : AllHold (searchRules t tree want) → Sound t tree want
   sound-of h = record {
     some = h .0 0 (omega arith) (omega arith);
@@ -74,22 +75,33 @@ module _ (t : Table) (tree : Tree) (want allowance : ℕ) where
     passes = record { sound = (h .1 .1 .0, (h .1 .1 .1 .0, tt)); passes = h .1 .1 .1 .1 };
   }
 
-  -- a rule is broken
-  pub searched-fault : {v : Verdict} → v ≡ verdict (searchRules t tree want) → (v .code ≡ 0 → ⊥) → refused (v .code) (v .at) ≡ searched t tree want allowance
-  unfolding searched
-  searched-fault {v} e n =
-      ap (λ (u : Verdict). refused (u .code) (u .at)) e ∙ rw (searched, ne-eqb (verdict (searchRules t tree want) .code) 0 (λ z. n (ap (λ (u : Verdict). u .code) e ∙ z)))
+  of-sound : Sound t tree want → AllHold (searchRules t tree want)
+  of-sound s = (λ _ _ _. s .some, (λ _ _ _. s .few, (s .passes .sound .0, (s .passes .sound .1 .0, s .passes .passes))))
 
-  module _ {v : Verdict} (e : v ≡ verdict (searchRules t tree want)) (z : v .code ≡ 0) where
-    pub searched-sound : Sound t tree want
-    searched-sound = sound-of (none-broken (searchRules t tree want) (ap (λ (u : Verdict). u .code) (sym e) ∙ z))
+  -- what is known once the want, and all that is looked at, is not refused
+  pub sound-want : {v : Verdict} → v ≡ verdict (queryRules want) → v .code ≡ 0 → Passes t tree → Sound t tree want
+  sound-want e z p = let h = passed (queryRules want) (checkRules t tree) _ e z in record { some = h .0 0 (omega arith) (omega arith); few = h .1 .0 0 (omega arith) (omega arith); passes = p }
 
-    -- none
-    pub searched-none : begins t tree (kinds want) ≡ false → refused 31 0 ≡ searched t tree want allowance
+  pub sound-all : {v : Verdict} → v ≡ verdict (searchRules t tree want) → v .code ≡ 0 → Sound t tree want
+  sound-all e z = sound-of (none-broken (searchRules t tree want) (ap (λ (u : Verdict). u .code) (sym e) ∙ z))
+
+  module _ (allowance : ℕ) where
+    -- a rule is broken
+    pub searched-fault : {v : Verdict} → v ≡ verdict (searchRules t tree want) → (v .code ≡ 0 → ⊥) → refused (v .code) (v .at) ≡ searched t tree want allowance
     unfolding searched
-    searched-none b = rw (searched, ← e, eq-eqb (v .code) 0 z, b)
+    searched-fault {v} e n =
+        ap (λ (u : Verdict). refused (u .code) (u .at)) e ∙ rw (searched, ne-eqb (verdict (searchRules t tree want) .code) 0 (λ z. n (ap (λ (u : Verdict). u .code) e ∙ z)))
 
-    -- the walk
-    pub searched-walk : begins t tree (kinds want) ≡ true → outcome (stateOf t (standsAt t tree (kinds want) allowance)) ≡ searched t tree want allowance
-    unfolding searched
-    searched-walk b = rw (searched, ← e, eq-eqb (v .code) 0 z, b)
+    pub searched-want : {v : Verdict} → v ≡ verdict (queryRules want) → (v .code ≡ 0 → ⊥) → refused (v .code) (v .at) ≡ searched t tree want allowance
+    searched-want e n = searched-fault (stopped (queryRules want) (checkRules t tree) _ e n) n
+
+    module _ (s : Sound t tree want) where
+      -- none
+      pub searched-none : begins t tree (kinds want) ≡ false → refused 31 0 ≡ searched t tree want allowance
+      unfolding searched
+      searched-none b = rw (searched, all-hold (searchRules t tree want) (of-sound s), b)
+
+      -- the walk
+      pub searched-walk : begins t tree (kinds want) ≡ true → outcome (stateOf t (standsAt t tree (kinds want) allowance)) ≡ searched t tree want allowance
+      unfolding searched
+      searched-walk b = rw (searched, all-hold (searchRules t tree want) (of-sound s), b)

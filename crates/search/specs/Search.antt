@@ -1,7 +1,7 @@
 -- The search: what it refuses, and what it gives.
 -- Assumes nothing.
 use mathlib.Core.Bool.{true, false}
-use mathlib.Core.List.{List, _∷_}
+use mathlib.Core.List.{List, [], _∷_, _++_}
 use Prim.Native.Nat.{ℕ, _≤_}
 use native.Mathlib.Decide.{decLe}
 use lib.Dec.{lit≤, ltb, eqb}
@@ -24,9 +24,12 @@ rule1 want = record { code = 1; numbered = lit≤ tt; from = 0; many = 1; Asks =
 abbrev pub rule2 : ℕ → Rule
 rule2 want = record { code = 2; numbered = lit≤ tt; from = 0; many = 1; Asks = λ _. length (kinds want) ≤ 8; decides = λ _. decLe (length (kinds want)) 8 }
 
+abbrev pub queryRules : ℕ → List Rule
+queryRules want = rule1 want ∷ rule2 want ∷ []
+
 -- what a search looks at before it walks: the want, the table, the tree
 abbrev pub searchRules : Table → Tree → ℕ → List Rule
-searchRules t tree want = rule1 want ∷ rule2 want ∷ checkRules t tree
+searchRules t tree want = queryRules want ++ checkRules t tree
 
 -- a refused search
 abbrev pub refused : ℕ → ℕ → Found

@@ -8,7 +8,8 @@ ghost use Rattle.tree.specs.Tree.{Shape, Sides};
 ghost use Rattle.closest.specs.Walk.{begins};
 ghost use Rattle.tree.specs.Lent.{shape, sides, tree};
 ghost use Rattle.verdict.specs.Rules.{verdict};
-ghost use Rattle.search.specs.Search.{refused, outcome, searchRules, searched};
+ghost use Rattle.walk.specs.Members.{Passes};
+ghost use Rattle.search.specs.Search.{refused, outcome, queryRules, searchRules, searched};
 
 // What a search gives.
 pub struct Found {
@@ -33,6 +34,20 @@ fn refuse(code: u8, at: usize) -> Found
     }
 }
 
+// What is refused of a want.
+fn want_fault(want: u64) -> verdict::Verdict
+    ensures { λ r. ⌜ r ≡ verdict (queryRules want) ⌝ }
+{
+    let many = kit::count_kinds(want);
+    if many < 1 {
+        return verdict::Verdict { code: 1, at: 0 };
+    }
+    if 8 < many {
+        return verdict::Verdict { code: 2, at: 0 };
+    }
+    verdict::Verdict { code: 0, at: 0 }
+}
+
 // What is refused before the walk: the want, then the table, then the tree.
 fn fault(
     x: &[i32],
@@ -53,12 +68,9 @@ fn fault(
 ) -> verdict::Verdict
     ensures { λ r. ⌜ r ≡ verdict (searchRules (table (now (x .entry)) (now (y .entry)) (now (kit .entry))) (tree (shape nodes listed (now (level .entry)) (now (start .entry)) (now (count .entry)) (now (entries .entry))) (sides (now («x_lo» .entry)) (now («x_hi» .entry)) (now («y_lo» .entry)) (now («y_hi» .entry))) (now (kits .entry))) want) ⌝ }
 {
-    let many = kit::count_kinds(want);
-    if many < 1 {
-        return verdict::Verdict { code: 1, at: 0 };
-    }
-    if 8 < many {
-        return verdict::Verdict { code: 2, at: 0 };
+    let w = want_fault(want);
+    if w.code != 0 {
+        return w;
     }
     tree::check(
         x,
@@ -118,6 +130,60 @@ fn outcome_of(s: walk::State) -> Found
     }
 }
 
+// Internal: the search over a table and a tree that pass the check.
+pub fn search_over(
+    x: &[i32],
+    y: &[i32],
+    kit: &[u64],
+    level: &[u8],
+    start: &[u16],
+    count: &[u8],
+    x_lo: &[i32],
+    x_hi: &[i32],
+    y_lo: &[i32],
+    y_hi: &[i32],
+    kits: &[u64],
+    entries: &[u16],
+    nodes: usize,
+    listed: usize,
+    want: u64,
+    allowance: u32,
+) -> Found
+    requires { ⌜ Passes (table (now x) (now y) (now kit)) (tree (shape nodes listed (now level) (now start) (now count) (now entries)) (sides (now «x_lo») (now «x_hi») (now «y_lo») (now «y_hi»)) (now kits)) ⌝ }
+    ensures { λ r. ⌜ r ≡ searched (table (now (x .entry)) (now (y .entry)) (now (kit .entry))) (tree (shape nodes listed (now (level .entry)) (now (start .entry)) (now (count .entry)) (now (entries .entry))) (sides (now («x_lo» .entry)) (now («x_hi» .entry)) (now («y_lo» .entry)) (now («y_hi» .entry))) (now (kits .entry))) want allowance ⌝ }
+{
+    let w = want_fault(want);
+    if w.code != 0 {
+        return refuse(w.code, w.at);
+    }
+    if !root_holds(kits, nodes, want) {
+        return refuse(31, 0);
+    }
+    let l = kit::list_kinds(want);
+    let m = l.count;
+    let kinds = l.kinds;
+    let s = walk::walk_all(
+        level,
+        start,
+        count,
+        entries,
+        x,
+        y,
+        kit,
+        x_lo,
+        x_hi,
+        y_lo,
+        y_hi,
+        kits,
+        nodes,
+        listed,
+        kinds,
+        m,
+        allowance,
+    );
+    outcome_of(s)
+}
+
 // The places that together hold a wanted kit and lie closest: 1, 2, 11, 12, 21 to 26, 31, 32, 33.
 pub fn search(
     x: &[i32],
@@ -159,30 +225,22 @@ pub fn search(
     if v.code != 0 {
         return refuse(v.code, v.at);
     }
-    if !root_holds(kits, nodes, want) {
-        return refuse(31, 0);
-    }
-    let l = kit::list_kinds(want);
-    let m = l.count;
-    let kinds = l.kinds;
-    let s = walk::walk_all(
-        level,
-        start,
-        count,
-        entries,
+    search_over(
         x,
         y,
         kit,
+        level,
+        start,
+        count,
         x_lo,
         x_hi,
         y_lo,
         y_hi,
         kits,
+        entries,
         nodes,
         listed,
-        kinds,
-        m,
+        want,
         allowance,
-    );
-    outcome_of(s)
+    )
 }

@@ -1,25 +1,12 @@
-use mathlib.Core.Path.{_≡_, refl, sym, ap, subst, _∙_}
-use mathlib.Core.Bool.{true}
-use mathlib.Core.List.{List}
-use Prim.Native.Nat.{ℕ}
-use lib.ListN.{take}
+use mathlib.Core.Path.{_∙_}
 use borrow.Author.Needs.{needs}
-use borrow.Author.Tests.{not-true, not-false}
-use Rattle.kit.specs.Kit.{kinds, listed}
-use Rattle.kit.specs.declared.Listed.{Listed}
 use Rattle.table.specs.Table.{Table, table}
 use Rattle.tree.specs.Tree.{Tree}
 use Rattle.tree.specs.Lent.{shape, sides, tree}
-use Rattle.closest.specs.Walk.{begins, standsAt}
-use Rattle.walk.specs.Members.{Few}
-use Rattle.walk.specs.State.{stateOf}
-use Rattle.walk.proofs.EntryLaws.{meets}
-use Rattle.search.specs.Search.{outcome}
-use Rattle.search.proofs.SearchLaws.{take-padded, few-of, Sound, searched-fault, searched-sound, searched-none, searched-walk}
+use Rattle.search.proofs.SearchLaws.{sound-all, searched-fault}
 use Rattle.search.proofs.search.Statement.{statement}
 use Rattle.search.proofs.search.Tie as tie
 
--- where the rules were looked at, and where the root was
 abbrev first : tie.After-fault → tie.Start
 first f = f .before .before .before .before .before .before .before
 
@@ -32,12 +19,6 @@ over f =
     tree (shape (s .args .nodes) (s .args .listed) (s .args .level .now) (s .args .start .now) (s .args .count .now) (s .args .entries .now))
     (sides (s .args .x-lo .now) (s .args .x-hi .now) (s .args .y-lo .now) (s .args .y-hi .now)) (s .args .kits .now)
 
-sound : (c : tie.Else1) → let f = c .before .before in Sound (places f) (over f) (first f .args .want)
-sound c = let f = c .before .before in searched-sound (places f) (over f) (first f .args .want) (first f .args .allowance) (f .fault .ensures) (c .if1 .left)
-
-root : (c : tie.After-root-holds) → let f = c .before .before .before in c .root-holds .result ≡ begins (places f) (over f) (kinds (first f .args .want))
-root c = let f = c .before .before .before in c .root-holds .ensures (places f) (over f .shape) (over f .sides) refl
-
 fault-requires : tie.Need-fault-requires
 fault-requires c κs = search needs
 
@@ -47,47 +28,11 @@ refuse-requires c κs = search needs
 returns : tie.Need-returns
 returns c = let f = c .before .before .before in c .refuse .ensures ∙ searched-fault (places f) (over f) (first f .args .want) (first f .args .allowance) (f .fault .ensures) (c .before .if1 .taken)
 
-root-holds-requires : tie.Need-root-holds-requires
-root-holds-requires c κs = meets (sound c .passes) .counted .room .kits
-
-refuse-requires-2 : tie.Need-refuse-requires-2
-refuse-requires-2 c κs = search needs
+search-over-requires : tie.Need-search-over-requires
+search-over-requires c κs = let f = c .before .before in sound-all (places f) (over f) (first f .args .want) (f .fault .ensures) (c .if1 .left) .passes
 
 returns-2 : tie.Need-returns-2
-returns-2 c =
-    let r : tie.After-root-holds = c .before .before in
-    let f = r .before .before .before in
-    c .refuse2 .ensures ∙ searched-none (places f) (over f) (first f .args .want) (first f .args .allowance) (f .fault .ensures) (r .before .if1 .left) (sym (root r) ∙ not-true _ (c .before .if2 .taken))
-
-list-kinds-requires : tie.Need-list-kinds-requires
-list-kinds-requires c κs = sound (c .before .before) .few
-
--- the kinds that the code lists
-wanted : (l : tie.After-list-kinds) → take (l .list-kinds .result .count) (l .list-kinds .result .kinds) ≡ kinds (first (l .before .before .before .before .before) .args .want)
-wanted l = ap (λ (k : Listed). take (k .count) (k .kinds)) (l .list-kinds .ensures) ∙ take-padded (kinds (first (l .before .before .before .before .before) .args .want))
-
-begun : (l : tie.After-list-kinds) → let f = l .before .before .before .before .before in begins (places f) (over f) (kinds (first f .args .want)) ≡ true
-begun l = sym (root (l .before .before)) ∙ not-false _ (l .before .if2 .left)
-
-walk-all-requires : tie.Need-walk-all-requires
-walk-all-requires c κs =
-    let l : tie.After-list-kinds = c .before in
-    let f = l .before .before .before .before .before in
-    let s = sound (l .before .before .before) in
-    let few : Few (l .list-kinds .result .count) (l .list-kinds .result .kinds) = subst (λ (k : Listed). Few (k .count) (k .kinds)) (sym (l .list-kinds .ensures)) (few-of (first f .args .want) (s .some) (s .few)) in
-    (s .passes, (few, subst (λ (k : List ℕ). begins (places f) (over f) k ≡ true) (sym (wanted l)) (begun l)))
-
-outcome-of-requires : tie.Need-outcome-of-requires
-outcome-of-requires c κs = search needs
-
-returns-3 : tie.Need-returns-3
-returns-3 c =
-    let w : tie.After-walk-all = c .before in
-    let l : tie.After-list-kinds = w .before .before in
-    let f = l .before .before .before .before .before in
-    c .outcome-of .ensures
-    ∙ ap outcome (w .walk-all .ensures ∙ ap (λ (k : List ℕ). stateOf (places f) (standsAt (places f) (over f) k (first f .args .allowance))) (wanted l))
-    ∙ searched-walk (places f) (over f) (first f .args .want) (first f .args .allowance) (f .fault .ensures) (l .before .before .before .if1 .left) (begun l)
+returns-2 c = c .search-over .ensures
 
 pub search-spec : {M : Type 1} → statement M
-search-spec = tie.close (tie.spec fault-requires refuse-requires returns root-holds-requires refuse-requires-2 returns-2 list-kinds-requires walk-all-requires outcome-of-requires returns-3)
+search-spec = tie.close (tie.spec fault-requires refuse-requires returns search-over-requires returns-2)

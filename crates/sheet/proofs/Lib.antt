@@ -1,4 +1,6 @@
 -- Laws of the place sheet.
 pub mod RowLaws
 pub mod SheetLaws
+pub mod PieceLaws
+pub mod SizeLaws
 pub mod Soundings

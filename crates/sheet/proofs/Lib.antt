@@ -3,4 +3,5 @@ pub mod RowLaws
 pub mod SheetLaws
 pub mod PieceLaws
 pub mod SizeLaws
+pub mod WriteLaws
 pub mod Soundings

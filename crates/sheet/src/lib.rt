@@ -1,1 +1,83 @@
-// Theory only: the place sheet, and that it is read as it was written.
+// The place sheet, written into a lent buffer.
+ghost use mathlib.Core.Path.{_≡_};
+ghost use mathlib.Core.List.{List};
+ghost use Prim.Native.Nat.{ℕ, _+_, _≤_};
+ghost use lib.ListN.{length};
+ghost use Rattle.verdict.specs.Rules.{says, verdict};
+ghost use Rattle.table.specs.Table.{table, Even};
+ghost use Rattle.print.specs.Puts.{Puts};
+ghost use Rattle.sheet.specs.Sheet.{sheetBytes};
+ghost use Rattle.sheet.specs.Pieces.{headText, placeText, placesText, queryText};
+ghost use Rattle.sheet.specs.Write.{asked, writeRules, written, over};
+
+// What the writer answers: code 0 and its byte count, or a refusal and 0 bytes.
+pub struct Written {
+    pub code: u8,
+    pub at: usize,
+    pub bytes: usize,
+}
+
+// The bytes of a place's four lines: each kit word has as many.
+fn place_size(i: usize, x: i32, y: i32) -> usize
+    ensures { λ r. ⌜ ((kit : ℕ) → r ≡ length (placeText i x y kit)) ⌝ }
+{
+    34 + print::width_of(i as u64) + print::signed_width_of(x) + print::signed_width_of(y)
+}
+
+// The bytes of a sheet: each kit word and each want has as many.
+fn size_of(x: &[i32], y: &[i32], budget: u32) -> usize
+    requires { ⌜ (length (now y) ≡ length (now x)) × (length (now x) ≤ 4096) ⌝ }
+    ensures { λ r. ⌜ ((kit : List ℕ) (want : ℕ) → length kit ≡ length (now (x .entry)) → r ≡ length (sheetBytes (asked (table (now (x .entry)) (now (y .entry)) kit) want budget))) ⌝ }
+{
+    let mut size = 56 + print::width_of(x.len() as u64) + print::width_of(budget as u64);
+    let mut i = 0;
+    while i < x.len() {
+        size += place_size(i, x[i], y[i]);
+        i += 1;
+    }
+    size
+}
+
+// The first two lines at the start of the buffer; gives the place after them, as the next three do.
+fn put_head(out: &mut [u8], places: usize) -> usize
+    requires { ⌜ 0 + length (headText places) ≤ length (now out) ⌝ }
+    ensures { λ r. ⌜ Puts (now (out .entry)) 0 (headText places) r (now (out .exit)) ⌝ }
+{
+    let a = print::put_word_line(out, 0, b"sheet=", b"1");
+    print::put_number_line(out, a, b"places=", places as u64)
+}
+
+// The four lines of place i.
+fn put_place(out: &mut [u8], at: usize, i: usize, x: i32, y: i32, kit: u64) -> usize
+    requires { ⌜ at + length (placeText i x y kit) ≤ length (now out) ⌝ }
+    ensures { λ r. ⌜ Puts (now (out .entry)) at (placeText i x y kit) r (now (out .exit)) ⌝ }
+{
+    let a = print::put_number_line(out, at, b"place=", i as u64);
+    let b = print::put_signed_line(out, a, b"x=", x);
+    let c = print::put_signed_line(out, b, b"y=", y);
+    print::put_bits_line(out, c, b"kit=", kit)
+}
+
+// The lines of all places.
+fn put_places(out: &mut [u8], at: usize, x: &[i32], y: &[i32], kit: &[u64]) -> usize
+    requires { ⌜ Even (table (now x) (now y) (now kit)) × (at + length (placesText (table (now x) (now y) (now kit)) (length (now x))) ≤ length (now out)) ⌝ }
+    ensures { λ r. ⌜ Puts (now (out .entry)) at (placesText (table (now (x .entry)) (now (y .entry)) (now (kit .entry))) (length (now (x .entry)))) r (now (out .exit)) ⌝ }
+{
+    let mut end = at;
+    let mut i = 0;
+    while i < x.len() {
+        end = put_place(out, end, i, x[i], y[i], kit[i]);
+        i += 1;
+    }
+    end
+}
+
+// The last three lines.
+fn put_query(out: &mut [u8], at: usize, want: u64, budget: u32) -> usize
+    requires { ⌜ at + length (queryText want budget) ≤ length (now out) ⌝ }
+    ensures { λ r. ⌜ Puts (now (out .entry)) at (queryText want budget) r (now (out .exit)) ⌝ }
+{
+    let a = print::put_bits_line(out, at, b"want=", want);
+    let b = print::put_number_line(out, a, b"budget=", budget as u64);
+    print::put_word_line(out, b, b"end=", b"sheet")
+}

@@ -9,7 +9,7 @@ use lib.ListN.{length, getD}
 use Rattle.table.specs.Table.{Table, table, places, kitOf, Even}
 use Rattle.lines.specs.Text.{ascii}
 use Rattle.lines.specs.Part.{several}
-use Rattle.sheet.specs.Sheet.{fixed, countLine, placePart, queryPart, rows, sheetPart, sheetBytes}
+use Rattle.sheet.specs.Sheet.{fixed, countLine, placePart, rows, sheetPart, sheetBytes}
 use Rattle.sheet.specs.Pieces.{headText, placeText, placesText, queryText}
 use Rattle.sheet.specs.Write.{asked}
 

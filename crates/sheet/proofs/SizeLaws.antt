@@ -1,17 +1,17 @@
 -- How many bytes a sheet has, and how many are always enough.
 -- Assumes nothing.
 use Prim.Native.Nat.{ℕ, zero, suc, _+_, _-_, _*_, _^_, _≤_, _<_}
-use mathlib.Core.Path.{_≡_, refl, sym, ap, subst, _∙_}
-use mathlib.Core.List.{List, [], _∷_, _++_}
+use mathlib.Core.Path.{_≡_, refl, ap, _∙_}
+use mathlib.Core.List.{List}
 use native.Mathlib.Decide.{decLe}
 use native.Mathlib.Nat.{pow-le-pow-right}
 use native.Mathlib.Numerals.{add-one}
 use native.Mathlib.Omega.{arith}
 use lib.IntN.{ℤ, pos, negsuc, natAbs}
 use lib.ListN.{length, getD, length-append}
-use Rattle.table.specs.Table.{Table, table, places, kitOf, Even, Valid}
+use Rattle.table.specs.Table.{Table, places, kitOf, Even, Valid}
 use Rattle.table.proofs.TableLaws.{valid-even, valid-ranged}
-use Rattle.lines.specs.Text.{ascii, decimal, signed, hex, width}
+use Rattle.lines.specs.Text.{signed, width}
 use Rattle.lines.proofs.NumberLaws.{width-fewest, width-most, decimal-length, hex-length}
 use Rattle.sheet.specs.Sheet.{placePart, queryPart, sheetBytes}
 use Rattle.sheet.specs.Pieces.{headText, placeText, placesText, queryText}

@@ -81,3 +81,43 @@ fn put_query(out: &mut [u8], at: usize, want: u64, budget: u32) -> usize
     let b = print::put_number_line(out, a, b"budget=", budget as u64);
     print::put_word_line(out, b, b"end=", b"sheet")
 }
+
+// The whole sheet at the start of a buffer that has room for it.
+fn put_sheet(out: &mut [u8], x: &[i32], y: &[i32], kit: &[u64], want: u64, budget: u32) -> usize
+    requires { ⌜ Even (table (now x) (now y) (now kit)) × (length (sheetBytes (asked (table (now x) (now y) (now kit)) want budget)) ≤ length (now out)) ⌝ }
+    ensures { λ r. ⌜ Puts (now (out .entry)) 0 (sheetBytes (asked (table (now (x .entry)) (now (y .entry)) (now (kit .entry))) want budget)) r (now (out .exit)) ⌝ }
+{
+    let a = put_head(out, x.len());
+    let b = put_places(out, a, x, y, kit);
+    put_query(out, b, want, budget)
+}
+
+// Writes the sheet of a table, a want and a budget at the start of a lent buffer: 11, 12, 54; in a refusal nothing is changed.
+// 70 bytes and 54 for each place are always enough: 221,254 for a full table.
+pub fn write(x: &[i32], y: &[i32], kit: &[u64], want: u64, budget: u32, out: &mut [u8]) -> Written
+    ensures { λ r. ⌜ says (r .code) (r .at) ≡ verdict (writeRules (asked (table (now (x .entry)) (now (y .entry)) (now (kit .entry))) want budget) (length (now (out .entry)))) ⌝ }
+    ensures { λ r. ⌜ r .bytes ≡ length (written (r .code) (asked (table (now (x .entry)) (now (y .entry)) (now (kit .entry))) want budget)) ⌝ }
+    ensures { λ r. ⌜ now (out .exit) ≡ over (written (r .code) (asked (table (now (x .entry)) (now (y .entry)) (now (kit .entry))) want budget)) (now (out .entry)) ⌝ }
+{
+    let v = table::check(x, y, kit);
+    if v.code != 0 {
+        return Written {
+            code: v.code,
+            at: v.at,
+            bytes: 0,
+        };
+    }
+    if out.len() < size_of(x, y, budget) {
+        return Written {
+            code: 54,
+            at: 0,
+            bytes: 0,
+        };
+    }
+    let bytes = put_sheet(out, x, y, kit, want, budget);
+    Written {
+        code: 0,
+        at: 0,
+        bytes,
+    }
+}

@@ -1,7 +1,8 @@
 -- Laws of the place sheet.
 pub mod RowLaws
 pub mod SheetLaws
+pub mod Soundings
 pub mod PieceLaws
 pub mod SizeLaws
 pub mod WriteLaws
-pub mod Soundings
+pub mod WriteSoundings

@@ -39,7 +39,7 @@ pub signed-most : (z : ℤ) → length (signed z) ≤ 21
 signed-most z = omega (arith, signed-length z, width-most (natAbs z))
 
 -- the bytes of lines
-pub head-length : (p : ℕ) → length (headText p) ≡ 16 + width p
+head-length : (p : ℕ) → length (headText p) ≡ 16 + width p
 unfolding headText
 head-length p = simp length-append (omega (arith, decimal-length p))
 
@@ -47,7 +47,7 @@ pub place-length : (i : ℕ) (x y : ℤ) (kit : ℕ) → length (placeText i x y
 unfolding placeText placePart
 place-length i x y kit = simp length-append (omega (arith, decimal-length i, hex-length kit))
 
-pub query-length : (want budget : ℕ) → length (queryText want budget) ≡ 40 + width budget
+query-length : (want budget : ℕ) → length (queryText want budget) ≡ 40 + width budget
 unfolding queryText queryPart
 query-length want budget = simp length-append (omega (arith, decimal-length budget, hex-length want))
 

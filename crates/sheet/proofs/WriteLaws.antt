@@ -15,7 +15,7 @@ use Rattle.print.specs.Puts.{Puts}
 use Rattle.print.proofs.PutLaws.{room-after, puts-then, puts-text}
 use Rattle.sheet.specs.Sheet.{Held, sheetBytes}
 use Rattle.sheet.specs.Pieces.{placeText, placesText}
-use Rattle.sheet.specs.Write.{asked, rule54, writeRules, written, over}
+use Rattle.sheet.specs.Write.{asked, rule54, writeRules, afterwards}
 use Rattle.sheet.proofs.SizeLaws.{bytes-enough}
 
 -- the text of place k of a table
@@ -57,14 +57,16 @@ module _ (t : Table) {o : List ℕ} {at : ℕ} (fits : at + length (placesText t
 pub put-length : {o : List ℕ} {at : ℕ} {t : List ℕ} {r : ℕ} {o₁ : List ℕ} → at + length t ≤ length o → Puts o at t r o₁ → length o₁ ≡ length o
 put-length {o} {at} {t} fits p = ap length (p .bytes) ∙ simp (length-append, length-drop) (omega (arith, length-take-le at o (omega arith)))
 
--- a text at the start of a buffer is written over it
-pub put-over : {o t : List ℕ} {r : ℕ} {o₁ : List ℕ} → Puts o 0 t r o₁ → (r ≡ length t) × (o₁ ≡ over t o)
-put-over {o} {t} p = (p .end ∙ omega arith, p .bytes ∙ (let e : 0 + length t ≡ length t = omega arith in ap (λ (k : ℕ). t ++ drop k o) e))
+-- the sheet at the start of a buffer is written over it
+pub sheet-put : (h : Held) {o : List ℕ} {r : ℕ} {o₁ : List ℕ} → Puts o 0 (sheetBytes h) r o₁ → (r, o₁) ≡ afterwards 0 h o
+sheet-put h {o} p =
+    let e : 0 + length (sheetBytes h) ≡ length (sheetBytes h) = omega arith in
+    ap₂ (λ (n : ℕ) (l : List ℕ). (n, l)) (p .end ∙ e) (p .bytes ∙ ap (λ (k : ℕ). sheetBytes h ++ drop k o) e)
 
--- in a refusal nothing is written
-pub none-written : (code : ℕ) (h : Held) (before : List ℕ) → (code ≡ 0 → ⊥) → (0 ≡ length (written code h)) × (before ≡ over (written code h) before)
-none-written zero h before n = absurd (n refl)
-none-written (suc code) h before n = (refl, refl)
+-- in a refusal all is kept
+pub kept : (code : ℕ) (h : Held) (before : List ℕ) → (code ≡ 0 → ⊥) → (0, before) ≡ afterwards code h before
+kept zero h before n = absurd (n refl)
+kept (suc code) h before n = refl
 
 module _ (h : Held) (room : ℕ) where
   -- rule 54 asks for the sheet's bytes

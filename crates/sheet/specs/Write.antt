@@ -20,11 +20,11 @@ rule54 h room = record { code = 54; numbered = lit≤ tt; from = 0; many = 1; As
 abbrev pub writeRules : Held → ℕ → List Rule
 writeRules h room = tableRules (h .table) ++ rule54 h room ∷ []
 
--- the bytes that are written, by the refusal's number: none in a refusal
-abbrev pub written : ℕ → Held → List ℕ
-written zero h = sheetBytes h
-written (suc code) h = []
-
 -- a buffer with bytes written over its start: the rest keeps its contents
 abbrev pub over : List ℕ → List ℕ → List ℕ
 over used before = used ++ drop (length used) before
+
+-- the byte count and the buffer afterwards, by the refusal's number: in a refusal 0, and all is kept
+abbrev pub afterwards : ℕ → Held → List ℕ → ℕ × List ℕ
+afterwards zero h before = (length (sheetBytes h), over (sheetBytes h) before)
+afterwards (suc code) h before = (0, before)

@@ -8,7 +8,7 @@ ghost use Rattle.table.specs.Table.{table, Even};
 ghost use Rattle.print.specs.Puts.{Puts};
 ghost use Rattle.sheet.specs.Sheet.{sheetBytes};
 ghost use Rattle.sheet.specs.Pieces.{headText, placeText, placesText, queryText};
-ghost use Rattle.sheet.specs.Write.{asked, writeRules, written, over};
+ghost use Rattle.sheet.specs.Write.{asked, writeRules, afterwards};
 
 // What the writer answers: code 0 and its byte count, or a refusal and 0 bytes.
 pub struct Written {
@@ -17,14 +17,14 @@ pub struct Written {
     pub bytes: usize,
 }
 
-// The bytes of a place's four lines: each kit word has as many.
+// The bytes of a place's four lines: 34 beside its three numbers, whatever its kit word.
 fn place_size(i: usize, x: i32, y: i32) -> usize
     ensures { λ r. ⌜ ((kit : ℕ) → r ≡ length (placeText i x y kit)) ⌝ }
 {
     34 + print::width_of(i as u64) + print::signed_width_of(x) + print::signed_width_of(y)
 }
 
-// The bytes of a sheet: each kit word and each want has as many.
+// The bytes of a sheet: 56 beside its places and two numbers, whatever the kit words and the want.
 fn size_of(x: &[i32], y: &[i32], budget: u32) -> usize
     requires { ⌜ (length (now y) ≡ length (now x)) × (length (now x) ≤ 4096) ⌝ }
     ensures { λ r. ⌜ ((kit : List ℕ) (want : ℕ) → length kit ≡ length (now (x .entry)) → r ≡ length (sheetBytes (asked (table (now (x .entry)) (now (y .entry)) kit) want budget))) ⌝ }
@@ -38,12 +38,12 @@ fn size_of(x: &[i32], y: &[i32], budget: u32) -> usize
     size
 }
 
-// The first two lines at the start of the buffer; gives the place after them, as the next three do.
-fn put_head(out: &mut [u8], places: usize) -> usize
-    requires { ⌜ 0 + length (headText places) ≤ length (now out) ⌝ }
-    ensures { λ r. ⌜ Puts (now (out .entry)) 0 (headText places) r (now (out .exit)) ⌝ }
+// The first two lines at a place in the buffer; gives the place after them, as the next three do.
+fn put_head(out: &mut [u8], at: usize, places: usize) -> usize
+    requires { ⌜ at + length (headText places) ≤ length (now out) ⌝ }
+    ensures { λ r. ⌜ Puts (now (out .entry)) at (headText places) r (now (out .exit)) ⌝ }
 {
-    let a = print::put_word_line(out, 0, b"sheet=", b"1");
+    let a = print::put_word_line(out, at, b"sheet=", b"1");
     print::put_number_line(out, a, b"places=", places as u64)
 }
 
@@ -87,7 +87,7 @@ fn put_sheet(out: &mut [u8], x: &[i32], y: &[i32], kit: &[u64], want: u64, budge
     requires { ⌜ Even (table (now x) (now y) (now kit)) × (length (sheetBytes (asked (table (now x) (now y) (now kit)) want budget)) ≤ length (now out)) ⌝ }
     ensures { λ r. ⌜ Puts (now (out .entry)) 0 (sheetBytes (asked (table (now (x .entry)) (now (y .entry)) (now (kit .entry))) want budget)) r (now (out .exit)) ⌝ }
 {
-    let a = put_head(out, x.len());
+    let a = put_head(out, 0, x.len());
     let b = put_places(out, a, x, y, kit);
     put_query(out, b, want, budget)
 }
@@ -96,8 +96,7 @@ fn put_sheet(out: &mut [u8], x: &[i32], y: &[i32], kit: &[u64], want: u64, budge
 // 70 bytes and 54 for each place are always enough: 221,254 for a full table.
 pub fn write(x: &[i32], y: &[i32], kit: &[u64], want: u64, budget: u32, out: &mut [u8]) -> Written
     ensures { λ r. ⌜ says (r .code) (r .at) ≡ verdict (writeRules (asked (table (now (x .entry)) (now (y .entry)) (now (kit .entry))) want budget) (length (now (out .entry)))) ⌝ }
-    ensures { λ r. ⌜ r .bytes ≡ length (written (r .code) (asked (table (now (x .entry)) (now (y .entry)) (now (kit .entry))) want budget)) ⌝ }
-    ensures { λ r. ⌜ now (out .exit) ≡ over (written (r .code) (asked (table (now (x .entry)) (now (y .entry)) (now (kit .entry))) want budget)) (now (out .entry)) ⌝ }
+    ensures { λ r. ⌜ (r .bytes, now (out .exit)) ≡ afterwards (r .code) (asked (table (now (x .entry)) (now (y .entry)) (now (kit .entry))) want budget) (now (out .entry)) ⌝ }
 {
     let v = table::check(x, y, kit);
     if v.code != 0 {

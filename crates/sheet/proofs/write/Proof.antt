@@ -1,7 +1,7 @@
 -- A refusal keeps all; else the whole sheet is put.
 -- Assumes nothing.
 use Prim.Native.Nat.{_≤_}
-use mathlib.Core.Path.{_≡_}
+use mathlib.Core.Path.{_≡_, refl}
 use mathlib.Core.List.{[]}
 use native.Mathlib.Omega.{arith}
 use borrow.Author.Needs.{needs}
@@ -11,7 +11,7 @@ use Rattle.table.proofs.TableLaws.{valid-even}
 use Rattle.verdict.proofs.RuleLaws.{passed, passed-on, stopped}
 use Rattle.sheet.specs.Sheet.{Held, sheetBytes}
 use Rattle.sheet.specs.Write.{asked}
-use Rattle.sheet.proofs.WriteLaws.{put-over, none-written, too-short, long-enough}
+use Rattle.sheet.proofs.WriteLaws.{sheet-put, kept, too-short, long-enough}
 use Rattle.sheet.proofs.write.Statement.{statement}
 use Rattle.sheet.proofs.write.Tie as tie
 
@@ -28,7 +28,7 @@ returns : tie.Need-returns
 returns c =
     let k = c .before .before in
     let s = begin k in
-    (stopped (tableRules (tableAt s)) _ (k .check .result) (k .check .ensures) (c .if1 .taken), none-written _ (heldAt s) _ (c .if1 .taken))
+    (stopped (tableRules (tableAt s)) _ (k .check .result) (k .check .ensures) (c .if1 .taken), kept _ (heldAt s) _ (c .if1 .taken))
 
 -- the table passes
 valid : (c : tie.Else1) → Valid (tableAt (begin (c .before .before)))
@@ -50,7 +50,7 @@ returns-2 c =
     let k = checked z in
     let s = begin k in (
       passed-on (tableRules (tableAt s)) _ (k .check .result) (k .check .ensures) (z .before .if1 .left) _ (too-short (heldAt s) _ (omega (arith, size-is z, c .if2 .taken))),
-      none-written 54 (heldAt s) _ (λ e. omega arith),
+      refl,
     )
 
 room : (c : tie.Else2) → let s = begin (checked (c .before)) in length (sheetBytes (heldAt s)) ≤ length (s .args .out .now)
@@ -65,7 +65,7 @@ returns-3 c =
     let l = p .before .before in
     let k = checked (l .before) in
     let s = begin k in
-    (passed-on (tableRules (tableAt s)) _ (k .check .result) (k .check .ensures) (l .before .before .if1 .left) _ (long-enough (heldAt s) _ (room l)), put-over {t = sheetBytes (heldAt s)} (p .put-sheet .ensures))
+    (passed-on (tableRules (tableAt s)) _ (k .check .result) (k .check .ensures) (l .before .before .if1 .left) _ (long-enough (heldAt s) _ (room l)), sheet-put (heldAt s) (p .put-sheet .ensures))
 
 pub write-spec : {M : Type 1} → statement M
 write-spec = tie.close (tie.spec (λ c κs. search needs) returns size-of-requires returns-2 put-sheet-requires (λ c. search needs) returns-3)

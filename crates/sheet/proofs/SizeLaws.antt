@@ -51,16 +51,19 @@ query-length : (want budget : ℕ) → length (queryText want budget) ≡ 40 + w
 unfolding queryText queryPart
 query-length want budget = simp length-append (omega (arith, decimal-length budget, hex-length want))
 
--- the bytes of the first k places, whatever their kit words
+-- the bytes of place k and of the first k places, whatever their kit words
+abbrev pub sizeAt : List ℤ → List ℤ → ℕ → ℕ
+sizeAt x y k = 34 + width k + length (signed (getD x k (pos 0))) + length (signed (getD y k (pos 0)))
+
 pub sizeTo : List ℤ → List ℤ → ℕ → ℕ
 sizeTo x y zero = 0
-sizeTo x y (suc k) = sizeTo x y k + (34 + width k + length (signed (getD x k (pos 0))) + length (signed (getD y k (pos 0))))
+sizeTo x y (suc k) = sizeTo x y k + sizeAt x y k
 
 pub size-none : (x y : List ℤ) → sizeTo x y 0 ≡ 0
 unfolding sizeTo
 size-none x y = refl
 
-pub size-next : (x y : List ℤ) (k : ℕ) → sizeTo x y (k + 1) ≡ sizeTo x y k + (34 + width k + length (signed (getD x k (pos 0))) + length (signed (getD y k (pos 0))))
+pub size-next : (x y : List ℤ) (k : ℕ) → sizeTo x y (k + 1) ≡ sizeTo x y k + sizeAt x y k
 unfolding sizeTo
 size-next x y k = rw add-one
 

@@ -5,23 +5,19 @@ use mathlib.Core.Path.{_≡_, refl, sym, ap, ap₂, _∙_}
 use mathlib.Core.List.{List, [], _∷_, _++_, append-nil}
 use native.Mathlib.Numerals.{add-one}
 use native.Mathlib.Omega.{arith}
-use lib.IntN.{pos}
-use lib.ListN.{length, getD, take, drop, length-append, length-drop, take-append-drop}
+use lib.ListN.{length, take, drop, length-append, length-drop, take-append-drop}
 use lib.Seq.{length-take-le}
-use Rattle.table.specs.Table.{Table, places, kitOf, tableRules, Valid}
+use Rattle.table.specs.Table.{Table, places, tableRules, Valid}
 use Rattle.verdict.specs.Rules.{verdict, says}
 use Rattle.verdict.proofs.RuleLaws.{breaks-at, holds-all, goes-on}
 use Rattle.print.specs.Puts.{Puts}
 use Rattle.print.proofs.PutLaws.{room-after, puts-then, puts-text}
 use Rattle.sheet.specs.Sheet.{Held, sheetBytes}
-use Rattle.sheet.specs.Pieces.{placeText, placesText}
+use Rattle.sheet.specs.Pieces.{textAt, placesText}
 use Rattle.sheet.specs.Write.{asked, rule54, writeRules, afterwards}
 use Rattle.sheet.proofs.SizeLaws.{bytes-enough}
 
--- the text of place k of a table
-abbrev pub textAt : Table → ℕ → List ℕ
-textAt t k = placeText k (getD (t .x) k (pos 0)) (getD (t .y) k (pos 0)) (kitOf t k)
-
+-- the lines of one place more
 places-next : (t : Table) (k : ℕ) → placesText t k ++ textAt t k ≡ placesText t (k + 1)
 unfolding placesText
 places-next t k = rw add-one

@@ -17,10 +17,14 @@ unfoldable pub placeText : ℕ → ℤ → ℤ → ℕ → List ℕ
 unfolding placePart
 placeText i x y kit = placePart i .text (x, (y, kit))
 
+-- those of place k of a table
+abbrev pub textAt : Table → ℕ → List ℕ
+textAt t k = placeText k (getD (t .x) k (pos 0)) (getD (t .y) k (pos 0)) (kitOf t k)
+
 -- the lines of the first k places of a table
 unfoldable pub placesText : Table → ℕ → List ℕ
 placesText t zero = []
-placesText t (suc k) = placesText t k ++ placeText k (getD (t .x) k (pos 0)) (getD (t .y) k (pos 0)) (kitOf t k)
+placesText t (suc k) = placesText t k ++ textAt t k
 
 -- the last three lines
 unfoldable pub queryText : ℕ → ℕ → List ℕ

@@ -2,3 +2,7 @@
 pub mod RowLaws
 pub mod SheetLaws
 pub mod Soundings
+pub mod PieceLaws
+pub mod SizeLaws
+pub mod WriteLaws
+pub mod WriteSoundings

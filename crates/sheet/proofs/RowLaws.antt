@@ -17,7 +17,7 @@ use Rattle.lines.specs.Part.{Part, several}
 use Rattle.sheet.specs.Sheet.{Place, placePart, rows, xOf, yOf, wordOf, columns}
 
 -- in range, as the rules of a table and as the lines of a sheet have it
-inside-near : (z : ℤ) → outside z ≡ false → natAbs z ≤ 1000000
+pub inside-near : (z : ℤ) → outside z ≡ false → natAbs z ≤ 1000000
 inside-near (pos n) e = omega (arith, range-read (pos n) e)
 inside-near (negsuc n) e = omega (arith, range-read (negsuc n) e)
 

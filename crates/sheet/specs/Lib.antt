@@ -1,2 +1,4 @@
 -- What is cited of the place sheet.
 pub mod Sheet
+pub mod Pieces
+pub mod Write

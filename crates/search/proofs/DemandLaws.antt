@@ -16,7 +16,6 @@ use Rattle.table.proofs.TableLaws.{valid-ranged}
 use Rattle.tree.specs.Tree.{Tree}
 use Rattle.tree.proofs.TreeLaws.{Meets}
 use Rattle.verdict.specs.Rules.{AllHold}
-use Rattle.verdict.proofs.RuleLaws.{all-hold}
 use Rattle.walks.specs.Allowance.{Stand, stand}
 use Rattle.walks.specs.Walk.{final}
 use Rattle.walks.proofs.AllowanceLaws.{within, beyond}

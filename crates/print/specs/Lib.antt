@@ -1,0 +1,2 @@
+-- What is cited of text in a lent buffer.
+pub mod Puts

@@ -1,13 +1,13 @@
 -- One text put after another is the two as one; the digits that `io` makes are a number's text.
 -- Assumes nothing.
-use Prim.Native.Nat.{ℕ, zero, suc, _+_, _-_, _^_, _≤_, _<_}
-use mathlib.Core.Path.{_≡_, refl, ap, ap₂, sym, _∙_, subst}
-use mathlib.Core.List.{List, [], _∷_, _++_, append-assoc}
+use Prim.Native.Nat.{ℕ, _+_, _-_, _^_, _≤_, _<_}
+use mathlib.Core.Path.{_≡_, ap, ap₂, sym, _∙_, subst}
+use mathlib.Core.List.{List, _++_, append-assoc}
 use native.Mathlib.Numerals.{add-one}
 use native.Mathlib.Nat.{pow-le-pow-right}
 use native.Mathlib.Decide.{decLe}
 use native.Mathlib.Omega.{arith}
-use lib.ListN.{length, take, drop, getD, set, length-append, length-take, length-drop}
+use lib.ListN.{length, take, drop, getD, set, length-append, length-drop}
 use lib.Seq.{paste, paste-zero, paste-suc, length-paste, take-all, take-at, drop-append-add, drop-drop, length-take-le}
 use Rattle.io.specs.Digits.{digits, Fewest}
 use Rattle.lines.specs.Text.{decimal, hex, width}

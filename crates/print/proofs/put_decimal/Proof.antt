@@ -1,12 +1,10 @@
--- `print::put_decimal` meets its contract. Assumes nothing.
+-- The digits that `io` makes are the number's text.
+-- Assumes nothing.
 use Rattle.print.proofs.PutLaws.{puts-text, decimal-made}
-use Prim.Native.Nat.{ℕ, _+_, _-_, _≤_, _<_, _^_}
-use mathlib.Core.Path.{_≡_, refl, sym, ap, subst, _∙_}
-use mathlib.Core.List.{List, [], _∷_, _++_}
+use mathlib.Core.Path.{_≡_, ap, _∙_}
 use native.Mathlib.Omega.{arith}
-use lib.ListN.{length, take, length-append}
-use Rattle.print.specs.Puts.{Puts}
-use Rattle.lines.specs.Text.{decimal, hex}
+use lib.ListN.{length, take}
+use Rattle.lines.specs.Text.{decimal}
 use borrow.Author.Needs.{needs}
 use Rattle.print.proofs.put_decimal.Statement.{statement}
 use Rattle.print.proofs.put_decimal.Tie as tie

@@ -1,12 +1,10 @@
--- `print::put_hex` meets its contract. Assumes nothing.
+-- The digits that `io` makes are the word's text.
+-- Assumes nothing.
 use Rattle.print.proofs.PutLaws.{puts-text, hex-made}
-use Prim.Native.Nat.{ℕ, _+_, _-_, _≤_, _<_, _^_}
-use mathlib.Core.Path.{_≡_, refl, sym, ap, subst, _∙_}
-use mathlib.Core.List.{List, [], _∷_, _++_}
+use mathlib.Core.Path.{_≡_, ap, _∙_}
 use native.Mathlib.Omega.{arith}
-use lib.ListN.{length, take, length-append}
-use Rattle.print.specs.Puts.{Puts}
-use Rattle.lines.specs.Text.{decimal, hex}
+use lib.ListN.{length, take}
+use Rattle.lines.specs.Text.{hex}
 use borrow.Author.Needs.{needs}
 use Rattle.print.proofs.put_hex.Statement.{statement}
 use Rattle.print.proofs.put_hex.Tie as tie

@@ -42,12 +42,12 @@ module _ {o : List ℕ} {at : ℕ} {t : List ℕ} {r : ℕ} {o₁ : List ℕ} (u
   before : length (take at o ++ t) ≡ at + length t
   before = length-append (take at o) t ∙ omega (arith, length-take-le at o (omega arith), length-append t u)
 
-  same : length o₁ ≡ length o
-  same = ap length (p .bytes) ∙ length-append (take at o ++ t) (drop (at + length t) o) ∙ omega (arith, before, length-drop (at + length t) o, length-append t u)
+  pub puts-length : length o₁ ≡ length o
+  puts-length = ap length (p .bytes) ∙ length-append (take at o ++ t) (drop (at + length t) o) ∙ omega (arith, before, length-drop (at + length t) o, length-append t u)
 
   -- what follows has room behind the text
   pub room-after : r + length u ≤ length o₁
-  room-after = omega (arith, same, p .end, length-append t u)
+  room-after = omega (arith, puts-length, p .end, length-append t u)
 
   pub puts-then : {r₂ : ℕ} {o₂ : List ℕ} → Puts o₁ r u r₂ o₂ → Puts o at (t ++ u) r₂ o₂
   puts-then q =
@@ -71,6 +71,10 @@ room-first t u n m h = omega (arith, length-append t u)
 -- the same by the text's name
 pub puts-text : {o : List ℕ} {at : ℕ} {t u : List ℕ} {r : ℕ} {o′ : List ℕ} → t ≡ u → Puts o at t r o′ → Puts o at u r o′
 puts-text {o} {at} {r = r} {o′ = o′} e p = subst (λ (t : List ℕ). Puts o at t r o′) e p
+
+-- what stands at the start of a list
+pub puts-first : {o t : List ℕ} {r : ℕ} {o′ : List ℕ} → Puts o 0 t r o′ → take r o′ ≡ t
+puts-first {o} {t} {r} p = ap (take r) (p .bytes) ∙ take-at t (drop (0 + length t) o) r (omega (arith, p .end))
 
 -- ---- the digits of a number
 pub width-made : (n k : ℕ) → n < 2 ^ 64 → Fewest 10 1 n k → k ≡ width n

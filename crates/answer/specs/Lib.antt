@@ -1,0 +1,4 @@
+-- What is cited of the printed answer.
+pub mod Distance
+pub mod Answer
+pub mod Lent

@@ -1,11 +1,12 @@
 -- The search by cases.
 -- Assumes nothing.
-use mathlib.Core.Path.{_≡_, refl, sym, ap, subst, _∙_}
+use mathlib.Core.Path.{_≡_, sym, ap, subst, _∙_}
 use mathlib.Core.Bool.{true, false}
-use mathlib.Core.List.{List, [], _∷_, _++_}
+use mathlib.Core.List.{List}
 use Prim.Native.Nat.{ℕ, _≤_, _<_}
 use native.Mathlib.Omega.{arith}
 use lib.ListN.{length, take, getD, List·getD-append}
+use lib.Seq.{take-append-seam}
 use borrow.Author.Tests.{ne-eqb, lt-ltb, le-ltb}
 use Rattle.kit.specs.Kit.{kinds, allHeld, padded}
 use Rattle.kit.proofs.KindLaws.{kinds-member}
@@ -51,13 +52,9 @@ unfolding outcome
 outcome-found s e l = rw (outcome, e, le-ltb 8000000000000 (s .best .squared) l)
 
 -- the kinds of a want as the code has them
-take-append : (l z : List ℕ) → take (length l) (l ++ z) ≡ l
-take-append [] z = refl
-take-append (a ∷ l) z = ap (λ k. a ∷ k) (take-append l z)
-
 pub take-padded : (l : List ℕ) → take (length l) (padded l) ≡ l
 unfolding padded
-take-padded l = take-append l _
+take-padded l = take-append-seam l _
 
 pub few-of : (want : ℕ) → 1 ≤ length (kinds want) → length (kinds want) ≤ 8 → Few (length (kinds want)) (padded (kinds want))
 unfolding padded

@@ -1,0 +1,1 @@
+-- What is cited of the program's answer.

@@ -46,12 +46,12 @@ fn begins(t: &[u8], key: &[u8]) -> bool
     if t.len() < n {
         return false;
     }
-    let mut i = 0;
-    while i < n {
-        if t[i] != key[i] {
+    let mut k = 0;
+    while k < n {
+        if t[k] != key[k] {
             return false;
         }
-        i += 1;
+        k += 1;
     }
     true
 }

@@ -8,10 +8,10 @@ use Rattle.lines.proofs.begins.Statement.{statement}
 use Rattle.lines.proofs.begins.Tie as tie
 
 abbrev Inv-loop : tie.InvT-loop
-Inv-loop t key n i₀ i = Alike t key i
+Inv-loop t key n k₀ k = Alike t key k
 
 abbrev μ-loop : tie.MeasureT-loop
-μ-loop t key n i₀ i = length key - i
+μ-loop t key n k₀ k = length key - k
 
 returns : tie.Need-returns Inv-loop μ-loop
 returns c = record { holds = λ e. absurd (let z : _≡_ {A = ℕ} 0 1 = cc in omega arith); fails = λ _. unkeyed-short _ _ (c .if1 .taken) }
@@ -28,8 +28,8 @@ shared-slice-read-if2-2 c = search needs
 returns-2 : tie.Need-returns-2 Inv-loop μ-loop
 returns-2 c = record { holds = λ e. absurd (let z : _≡_ {A = ℕ} 0 1 = cc in omega arith); fails = λ _. unkeyed _ _ _ (c .before .before .before .before .loop .inv) (c .before .before .before .before .before .if1 .left) (c .before .before .before .loop-test .taken) (c .if2 .taken) }
 
-add-i : tie.Need-add-i Inv-loop μ-loop
-add-i c = search needs
+add-k : tie.Need-add-k Inv-loop μ-loop
+add-k c = search needs
 
 loop-less : tie.Need-loop-less Inv-loop μ-loop
 loop-less c = search needs
@@ -51,7 +51,7 @@ begins-spec =
     shared-slice-read-if2
     shared-slice-read-if2-2
     returns-2
-    add-i
+    add-k
     loop-less
     loop-again
     returns-3)

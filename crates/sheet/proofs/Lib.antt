@@ -2,3 +2,6 @@
 pub mod RowLaws
 pub mod SheetLaws
 pub mod Soundings
+pub mod PlaceLaws
+pub mod SeveralLaws
+pub mod ColumnLaws

@@ -1,2 +1,3 @@
 -- What is cited of the place sheet.
 pub mod Sheet
+pub mod Read

@@ -9,4 +9,5 @@ pub mod ParseLaws
 pub mod SignedLaws
 pub mod ReadLaws
 pub mod KnownLaws
+pub mod CodeLaws
 pub mod Soundings

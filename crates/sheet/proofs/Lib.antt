@@ -5,3 +5,7 @@ pub mod Soundings
 pub mod PlaceLaws
 pub mod SeveralLaws
 pub mod ColumnLaws
+pub mod HeadLaws
+pub mod QueryLaws
+pub mod ScanLaws
+pub mod ReadingLaws

@@ -1,6 +1,6 @@
 -- A loop over the parts of a sheet: those passed, and what is left to read.
 -- Assumes nothing.
-use Prim.Native.Nat.{ℕ, suc, _+_, _-_, _*_, _≤_, _<_}
+use Prim.Native.Nat.{ℕ, zero, suc, _+_, _-_, _*_, _≤_, _<_}
 use mathlib.Core.Path.{_≡_, refl, ap, ap₂, sym, _∙_, subst}
 use mathlib.Core.List.{List, [], _∷_, _++_, append-assoc, append-nil}
 use native.Mathlib.Nat.{mul-add, mul-one}
@@ -26,7 +26,7 @@ onto-more : {A : Type 0} (pre : List A) (a : A) (g : Got (List A)) → onto pre 
 onto-more pre a (refused c l) = refl
 onto-more pre a (got l r) = ap (λ (m : List _). got m r) (sym (append-assoc pre (a ∷ []) l))
 
-abbrev pair : {A B : Type 0} → A → B → List ℕ → Got (A × B)
+abbrev pub pair : {A B : Type 0} → A → B → List ℕ → Got (A × B)
 pair a b r = got (a, b) r
 
 abbrev joined : {A : Type 0} → A × List A → List ℕ → Got (List A)
@@ -48,6 +48,13 @@ module _ {A : Type 0} (q : ℕ → Part A) (each : ℕ) (same : (i : ℕ) (a : A
   unfolding several
   several-refused k i n s c l e =
       ap (λ (g : Got A). next (next g (λ a r. next (several q k (suc i) .read (n + q i .lines a) r) (pair a))) joined) e
+
+  -- the lines of as many as there are
+  pub several-lines : (k i : ℕ) (l : List A) → length l ≡ k → several q k i .lines l ≡ each * k
+  unfolding several
+  several-lines zero i l h = omega arith
+  several-lines (suc k) i [] h = absurd (omega arith)
+  several-lines (suc k) i (a ∷ l) h = ap₂ (λ (m n : ℕ). m + n) (same i a) (several-lines k (suc i) l (omega arith)) ∙ omega (arith, mul-add each 1 k, mul-one each)
 
   -- i of p are read, and the next begins at `from`
   pub record Passed (s whole : List ℕ) (p first i from : ℕ) (pre : List A) : Type 0 where

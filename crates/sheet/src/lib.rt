@@ -2,13 +2,13 @@
 
 // Reading: all of a sheet is read before anything is stored.
 ghost use mathlib.Core.Path.{_≡_};
-ghost use Prim.Native.Nat.{ℕ, _+_, _*_, _≤_, _<_};
+ghost use Prim.Native.Nat.{_≤_, _<_, min};
 ghost use lib.ListN.{length, drop};
 ghost use lib.IntN.{pos};
-ghost use Rattle.lines.specs.Part.{fault, several};
+ghost use Rattle.lines.specs.Part.{several, fault};
 ghost use Rattle.lines.specs.Readers.{Read};
-ghost use Rattle.sheet.specs.Sheet.{placePart, queryPart, xOf, yOf, wordOf};
-ghost use Rattle.sheet.specs.Read.{headPart, passed, Fine, filled};
+ghost use Rattle.sheet.specs.Sheet.{placePart, queryPart, xOf, yOf, wordOf, readSheet};
+ghost use Rattle.sheet.specs.Read.{headPart, passed, Fine, filled, roomIn, reading, sheetOf, columnAfter};
 
 // The lines of a place: code 0, or the code and the line of a refusal; where the next line begins; the place.
 struct PlaceLines {
@@ -25,6 +25,102 @@ struct PlacesLines {
     code: u8,
     at: usize,
     next: usize,
+}
+
+// The first two lines: code 0, or the code and the line of a refusal; where the next line begins; the place count.
+struct HeadLines {
+    code: u8,
+    at: usize,
+    next: usize,
+    places: usize,
+}
+
+// The last three lines.
+struct QueryLines {
+    code: u8,
+    at: usize,
+    next: usize,
+    want: u64,
+    budget: u32,
+}
+
+// What a sheet comes to: code 0, or the code and the line of a refusal; place count, want and budget, 0 in a refusal.
+pub struct Sheet {
+    pub code: u8,
+    pub at: usize,
+    pub places: usize,
+    pub want: u64,
+    pub budget: u32,
+}
+
+// The lines 1 and 2, which begin at `at`.
+fn head_at(src: &[u8], at: usize) -> HeadLines
+    requires { ⌜ at ≤ length (now src) ⌝ }
+    ensures { λ r. ⌜ Read (now (src .entry)) (headPart .read 1 (drop at (now (src .entry)))) 0 0 (r .code) (r .at) (r .next) (r .places) ⌝ }
+{
+    let a = lines::line_word(src, at, b"sheet=", b"1");
+    if a.code != 0 {
+        return HeadLines {
+            code: a.code,
+            at: 1,
+            next: 0,
+            places: 0,
+        };
+    }
+    let b = lines::line_number(src, a.next, b"places=", 4096);
+    if b.code != 0 {
+        return HeadLines {
+            code: b.code,
+            at: 2,
+            next: 0,
+            places: 0,
+        };
+    }
+    HeadLines {
+        code: 0,
+        at: 0,
+        next: b.next,
+        places: b.value as usize,
+    }
+}
+
+// A query whose line `at` is refused.
+fn no_query(code: u8, at: usize) -> QueryLines
+    ensures { λ r. ⌜ r ≡ record { code = code; at = at; next = 0; want = 0; budget = 0 } ⌝ }
+{
+    QueryLines {
+        code: code,
+        at: at,
+        next: 0,
+        want: 0,
+        budget: 0,
+    }
+}
+
+// The query, whose first line is number `line` and begins at `at`.
+fn query_at(src: &[u8], at: usize, line: usize) -> QueryLines
+    requires { ⌜ (at ≤ length (now src)) × (line ≤ 16390) ⌝ }
+    ensures { λ r. ⌜ Read (now (src .entry)) (queryPart .read line (drop at (now (src .entry)))) 0 (0, 0) (r .code) (r .at) (r .next) (r .want, r .budget) ⌝ }
+{
+    let a = lines::line_bits(src, at, b"want=");
+    if a.code != 0 {
+        return no_query(a.code, line);
+    }
+    let b = lines::line_number(src, a.next, b"budget=", 4294967295);
+    if b.code != 0 {
+        return no_query(b.code, line + 1);
+    }
+    let c = lines::line_word(src, b.next, b"end=", b"sheet");
+    if c.code != 0 {
+        return no_query(c.code, line + 2);
+    }
+    QueryLines {
+        code: 0,
+        at: 0,
+        next: c.next,
+        want: a.value,
+        budget: b.value as u32,
+    }
 }
 
 // A place whose line `at` is refused.
@@ -122,4 +218,72 @@ fn fill(src: &[u8], at: usize, places: usize, x: &mut [i32], y: &mut [i32], kit:
         from = p.next;
         i += 1;
     }
+}
+
+// A sheet that is refused.
+fn refused(code: u8, at: usize) -> Sheet
+    ensures { λ r. ⌜ r ≡ sheetOf (fault code at) ⌝ }
+{
+    Sheet {
+        code: code,
+        at: at,
+        places: 0,
+        want: 0,
+        budget: 0,
+    }
+}
+
+// All of a sheet, of which nothing is stored.
+fn scan(src: &[u8]) -> Sheet
+    ensures { λ r. ⌜ r ≡ sheetOf (readSheet (now (src .entry))) ⌝ }
+{
+    let h = head_at(src, 0);
+    if h.code != 0 {
+        return refused(h.code, h.at);
+    }
+    let n = h.places;
+    let p = places_at(src, h.next, n);
+    if p.code != 0 {
+        return refused(p.code, p.at);
+    }
+    let q = query_at(src, p.next, 3 + 4 * n);
+    if q.code != 0 {
+        return refused(q.code, q.at);
+    }
+    if q.next < src.len() {
+        return refused(53, 6 + 4 * n);
+    }
+    Sheet {
+        code: 0,
+        at: 0,
+        places: n,
+        want: q.want,
+        budget: q.budget,
+    }
+}
+
+fn least(a: usize, b: usize) -> usize
+    ensures { λ r. ⌜ r ≡ min a b ⌝ }
+{
+    if a < b { a } else { b }
+}
+
+// Reads a sheet: 51 to 53 at the lowest line that is refused; then 54 where a lent column is shorter than the place count.
+// A refusal changes nothing that was lent; else the first values of each column are those of the places.
+pub fn read(src: &[u8], x: &mut [i32], y: &mut [i32], kit: &mut [u64]) -> Sheet
+    ensures { λ r. ⌜ r ≡ sheetOf (reading (now (src .entry)) (roomIn (now (x .entry)) (now (y .entry)) (now (kit .entry)))) ⌝ }
+    ensures { λ _. ⌜ now (x .exit) ≡ columnAfter (λ h. h .table .x) (reading (now (src .entry)) (roomIn (now (x .entry)) (now (y .entry)) (now (kit .entry)))) (now (x .entry)) ⌝ }
+    ensures { λ _. ⌜ now (y .exit) ≡ columnAfter (λ h. h .table .y) (reading (now (src .entry)) (roomIn (now (x .entry)) (now (y .entry)) (now (kit .entry)))) (now (y .entry)) ⌝ }
+    ensures { λ _. ⌜ now (kit .exit) ≡ columnAfter (λ h. h .table .kit) (reading (now (src .entry)) (roomIn (now (x .entry)) (now (y .entry)) (now (kit .entry)))) (now (kit .entry)) ⌝ }
+{
+    let r = scan(src);
+    if r.code != 0 {
+        return r;
+    }
+    if least(x.len(), least(y.len(), kit.len())) < r.places {
+        return refused(54, 0);
+    }
+    let h = head_at(src, 0);
+    fill(src, h.next, h.places, x, y, kit);
+    r
 }

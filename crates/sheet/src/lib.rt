@@ -5,6 +5,7 @@ ghost use mathlib.Core.Path.{_≡_};
 ghost use Prim.Native.Nat.{_≤_, _<_, min};
 ghost use lib.ListN.{length, drop};
 ghost use lib.IntN.{pos};
+ghost use Rattle.lines.specs.Line.{got};
 ghost use Rattle.lines.specs.Part.{several, fault};
 ghost use Rattle.lines.specs.Readers.{Read};
 ghost use Rattle.sheet.specs.Sheet.{placePart, queryPart, xOf, yOf, wordOf, readSheet};
@@ -233,33 +234,91 @@ fn refused(code: u8, at: usize) -> Sheet
     }
 }
 
-// All of a sheet, of which nothing is stored.
-fn scan(src: &[u8]) -> Sheet
+// All that follows the head, which ends at `at` and says how many places there are: nothing is stored.
+fn rest_at(src: &[u8], at: usize, places: usize) -> Sheet
+    requires { ⌜ (at ≤ length (now src)) × (headPart .read 1 (now src) ≡ got places (drop at (now src))) ⌝ }
     ensures { λ r. ⌜ r ≡ sheetOf (readSheet (now (src .entry))) ⌝ }
 {
-    let h = head_at(src, 0);
-    if h.code != 0 {
-        return refused(h.code, h.at);
-    }
-    let n = h.places;
-    let p = places_at(src, h.next, n);
+    let p = places_at(src, at, places);
     if p.code != 0 {
         return refused(p.code, p.at);
     }
-    let q = query_at(src, p.next, 3 + 4 * n);
+    let q = query_at(src, p.next, 3 + 4 * places);
     if q.code != 0 {
         return refused(q.code, q.at);
     }
     if q.next < src.len() {
-        return refused(53, 6 + 4 * n);
+        return refused(53, 6 + 4 * places);
     }
     Sheet {
         code: 0,
         at: 0,
-        places: n,
+        places: places,
         want: q.want,
         budget: q.budget,
     }
+}
+
+// The sheet reader: the caller's bytes, and how far it has come.
+pub struct Reader<'a> {
+    pub src: &'a [u8],
+    pub at: usize,
+}
+
+// A reader that stands at the start.
+pub fn new<'a>(src: &'a [u8]) -> Reader<'a>
+    ensures { λ r. ⌜ (r .src ≡ src .entry) × (r .at ≡ 0) ⌝ }
+{
+    Reader { src, at: 0 }
+}
+
+// The reader, come as far as `at`.
+pub fn moved<'a>(r: Reader<'a>, at: usize) -> Reader<'a>
+    ensures { λ q. ⌜ (q .src ≡ r .entry .src) × (q .at ≡ at) ⌝ }
+{
+    Reader { src: r.src, at }
+}
+
+// The head, where the reader stands.
+fn head<'a>(r: Reader<'a>) -> HeadLines
+    requires { ⌜ r .at ≤ length (now (r .src)) ⌝ }
+    ensures { λ q. ⌜ Read (now (r .entry .src)) (headPart .read 1 (drop (r .entry .at) (now (r .entry .src)))) 0 0 (q .code) (q .at) (q .next) (q .places) ⌝ }
+{
+    head_at(r.src, r.at)
+}
+
+// All that follows the head, where the reader stands.
+fn rest<'a>(r: Reader<'a>, places: usize) -> Sheet
+    requires { ⌜ (r .at ≤ length (now (r .src))) × (headPart .read 1 (now (r .src)) ≡ got places (drop (r .at) (now (r .src)))) ⌝ }
+    ensures { λ q. ⌜ q ≡ sheetOf (readSheet (now (r .entry .src))) ⌝ }
+{
+    rest_at(r.src, r.at, places)
+}
+
+// The head of a sheet.
+fn head_of(src: &[u8]) -> HeadLines
+    ensures { λ r. ⌜ Read (now (src .entry)) (headPart .read 1 (now (src .entry))) 0 0 (r .code) (r .at) (r .next) (r .places) ⌝ }
+{
+    head(new(src))
+}
+
+// All that follows the head of a sheet.
+fn rest_of(src: &[u8], at: usize, places: usize) -> Sheet
+    requires { ⌜ (at ≤ length (now src)) × (headPart .read 1 (now src) ≡ got places (drop at (now src))) ⌝ }
+    ensures { λ r. ⌜ r ≡ sheetOf (readSheet (now (src .entry))) ⌝ }
+{
+    rest(moved(new(src), at), places)
+}
+
+// All of a sheet, of which nothing is stored.
+fn scan(src: &[u8]) -> Sheet
+    ensures { λ r. ⌜ r ≡ sheetOf (readSheet (now (src .entry))) ⌝ }
+{
+    let h = head_of(src);
+    if h.code != 0 {
+        return refused(h.code, h.at);
+    }
+    rest_of(src, h.next, h.places)
 }
 
 fn least(a: usize, b: usize) -> usize
@@ -283,7 +342,7 @@ pub fn read(src: &[u8], x: &mut [i32], y: &mut [i32], kit: &mut [u64]) -> Sheet
     if least(x.len(), least(y.len(), kit.len())) < r.places {
         return refused(54, 0);
     }
-    let h = head_at(src, 0);
+    let h = head_of(src);
     fill(src, h.next, h.places, x, y, kit);
     r
 }

@@ -30,19 +30,19 @@ room : (c : tie.After-least2) → (let a = start (c .before .before .before .bef
 room c = c .least2 .ensures ∙ ap (λ (n : ℕ). min (length (start (c .before .before .before .before) .args .x .now)) n) (c .before .least .ensures)
 
 -- and of the head, which is read anew
-abbrev passed : tie.After-head-at → tie.Else1
+abbrev passed : tie.After-head-of → tie.Else1
 passed c = c .before .before .before .before .before
 
-head : (c : tie.After-head-at) → (let s = start (passed c .before .before) .args .src .now in let r = c .head-at .result in (headPart .read 1 s ≡ got (r .places) (drop (r .next) s)) × (r .next ≤ length s))
+head : (c : tie.After-head-of) → (let s = start (passed c .before .before) .args .src .now in let r = c .head-of .result in (headPart .read 1 s ≡ got (r .places) (drop (r .next) s)) × (r .next ≤ length s))
 head c =
     let s = start (passed c .before .before) .args .src .now in
     let g = headPart .read 1 s in
-    let r = c .head-at .result in
+    let r = c .head-of .result in
     let h = held (passed c) in
-    told-got s g 0 0 (r .code) (r .at) (r .next) (r .places) (c .head-at .ensures)
-    (fine-code g (r .code) (r .at) (head-fine s (h .0) (h .1 .0)) (λ n. told-refused s g 0 0 (r .code) (r .at) (r .next) (r .places) (c .head-at .ensures) n .0))
+    told-got s g 0 0 (r .code) (r .at) (r .next) (r .places) (c .head-of .ensures)
+    (fine-code g (r .code) (r .at) (head-fine s (h .0) (h .1 .0)) (λ n. told-refused s g 0 0 (r .code) (r .at) (r .next) (r .places) (c .head-of .ensures) n .0))
 
-enough : (c : tie.After-head-at) → (let a = start (passed c .before .before) .args in places (held (passed c) .0 .table) ≤ roomIn (a .x .now) (a .y .now) (a .kit .now))
+enough : (c : tie.After-head-of) → (let a = start (passed c .before .before) .args in places (held (passed c) .0 .table) ≤ roomIn (a .x .now) (a .y .now) (a .kit .now))
 enough c = omega (arith, many (passed c), room (c .before .before .before), c .before .if2 .left)
 
 scan-requires : tie.Need-scan-requires
@@ -66,8 +66,8 @@ returns-2 c =
     let h = held (b .before .before) in
     done-54 _ (h .0) (h .1 .0) _ _ _ _ _ (c .refused .ensures) (omega (arith, many (b .before .before), room b, c .before .if2 .taken))
 
-head-at-requires : tie.Need-head-at-requires
-head-at-requires c κs = search needs
+head-of-requires : tie.Need-head-of-requires
+head-of-requires c κs = search needs
 
 fill-requires : tie.Need-fill-requires
 fill-requires c κs =
@@ -103,7 +103,7 @@ read-spec =
     least-requires-2
     refused-requires
     returns-2
-    head-at-requires
+    head-of-requires
     fill-requires
     same-length
     same-length-2

@@ -9,7 +9,7 @@ use native.Mathlib.Omega.{arith}
 use borrow.Author.Tests.{lt-ltb, le-ltb}
 use lib.ListN.{length, length-append}
 use Rattle.io.specs.Digits.{glyph, digits}
-use Rattle.lines.specs.Text.{unglyph, valueFrom}
+use Rattle.lines.specs.Text.{unglyph, Digit, valueFrom}
 
 -- every byte of a text
 abbrev pub Every : (ℕ → Type 0) → List ℕ → Type 0
@@ -25,12 +25,6 @@ every-to P Q f [] p = tt
 every-to P Q f (c ∷ t) p = (f c (p .0), every-to P Q f t (p .1))
 
 -- digits
--- a digit of base b
-pub record Digit (b c : ℕ) : Type 0 where
-  pub least : 48 ≤ c
-  pub back : glyph (unglyph c) ≡ c
-  pub below : unglyph c < b
-
 pub glyph-below : (d : ℕ) → d < 10 → glyph d ≡ 48 + d
 glyph-below d h = rw (lt-ltb d 10 h)
 

@@ -1,6 +1,6 @@
 -- The texts of a form are read back, are short and hold no line feed; and which texts are in form.
 -- Assumes nothing.
-use Prim.Native.Nat.{ℕ, suc, _+_, _-_, _*_, _^_, _≤_, _<_}
+use Prim.Native.Nat.{ℕ, suc, _+_, _*_, _^_, _≤_, _<_}
 use mathlib.Core.Path.{_≡_, refl, ap, sym, _∙_, subst}
 use mathlib.Core.List.{List, [], _∷_}
 use native.Mathlib.Decide.{ℕ-discrete}
@@ -10,10 +10,10 @@ use borrow.Author.Tests.{eqb-false}
 use native.Mathlib.Omega.{arith}
 use lib.ListN.{length}
 use lib.IntN.{ℤ, pos, negsuc, natAbs}
-use Rattle.lines.specs.Text.{valueFrom, decimal, hex, signed, signedValue, minus}
+use Rattle.lines.specs.Text.{Digit, NoZero, valueFrom, decimal, hex, signed, signedValue, minus}
 use Rattle.lines.specs.Form.{Form, InForm, word, natural, coordinate, bits}
-use Rattle.lines.proofs.DigitLaws.{Every, every-to, Digit, value-most}
-use Rattle.lines.proofs.NumberLaws.{width-most, decimal-length, decimal-digits, decimal-value, hex-length, hex-digits, hex-value, hex-made, NoZero, decimal-made, decimal-plain}
+use Rattle.lines.proofs.DigitLaws.{Every, every-to, value-most}
+use Rattle.lines.proofs.NumberLaws.{width-most, decimal-length, decimal-digits, decimal-value, hex-length, hex-digits, hex-value, hex-made, decimal-made, decimal-plain}
 
 -- a byte that is no line feed
 abbrev pub NoFeed : ℕ → Type 0

@@ -4,4 +4,10 @@ pub mod NumberLaws
 pub mod FormLaws
 pub mod LineLaws
 pub mod PartLaws
+pub mod CutLaws
+pub mod ParseLaws
+pub mod SignedLaws
+pub mod ReadLaws
+pub mod KnownLaws
+pub mod CodeLaws
 pub mod Soundings

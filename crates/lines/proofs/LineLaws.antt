@@ -1,6 +1,6 @@
 -- A line is read back, and what is read well is that line, byte for byte.
 -- Assumes nothing.
-use Prim.Native.Nat.{ℕ, zero, suc, _+_, _-_, _≤_}
+use Prim.Native.Nat.{ℕ, zero, suc, _≤_}
 use mathlib.Core.Path.{_≡_, refl, ap, ap₂, sym, _∙_, subst}
 use mathlib.Core.List.{List, [], _∷_, _++_, append-assoc}
 use native.Mathlib.Decide.{ℕ-discrete}
@@ -13,7 +13,14 @@ use Rattle.lines.proofs.DigitLaws.{Every, every-append}
 use Rattle.lines.proofs.FormLaws.{NoFeed, Sound}
 
 -- the line that bytes begin with
-feed-no : {A : Type 0} (c : ℕ) (x y : A) → NoFeed c → elim (ℕ-discrete c 10) [ yes _ ↦ x | no _ ↦ y ] ≡ y
+pub feed-yes : {A : Type 0} (c : ℕ) (x y : A) → c ≡ 10 → elim (ℕ-discrete c 10) [ yes _ ↦ x | no _ ↦ y ] ≡ x
+feed-yes c x y e = go (ℕ-discrete c 10)
+  where
+    go : (d : Dec (c ≡ 10)) → elim d [ yes _ ↦ x | no _ ↦ y ] ≡ x
+    go (yes _) = refl
+    go (no h) = absurd (h e)
+
+pub feed-no : {A : Type 0} (c : ℕ) (x y : A) → NoFeed c → elim (ℕ-discrete c 10) [ yes _ ↦ x | no _ ↦ y ] ≡ y
 feed-no c x y n = go (ℕ-discrete c 10)
   where
     go : (d : Dec (c ≡ 10)) → elim d [ yes _ ↦ x | no _ ↦ y ] ≡ y

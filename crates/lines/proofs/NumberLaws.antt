@@ -8,8 +8,8 @@ use native.Mathlib.Nat.{div-lt-iff-lt-mul, le-div-iff-mul-le, pow-suc, one-le-po
 use native.Mathlib.Omega.{arith}
 use lib.ListN.{length}
 use Rattle.io.specs.Digits.{glyph, digits, Fewest}
-use Rattle.lines.specs.Text.{unglyph, valueFrom, width, widthIn, decimal, hex}
-use Rattle.lines.proofs.DigitLaws.{Every, Digit, unglyph-low, length-digits, every-digit, value-digits, digits-value, value-least, value-most}
+use Rattle.lines.specs.Text.{unglyph, Digit, NoZero, valueFrom, width, widthIn, decimal, hex}
+use Rattle.lines.proofs.DigitLaws.{Every, unglyph-low, length-digits, every-digit, value-digits, digits-value, value-least, value-most}
 
 -- the fewest digits
 ten : (k : ℕ) → 1 ≤ 10 ^ k
@@ -95,12 +95,6 @@ hex-value n h = value-digits 16 (omega arith) (omega arith) 16 n h
 pub hex-made : (t : List ℕ) → length t ≡ 16 → Every (Digit 16) t → hex (valueFrom 16 0 t) ≡ t
 unfolding hex
 hex-made t l e = let q : 16 ≡ 0 + length t = omega arith in ap (λ (k : ℕ). digits 16 k (valueFrom 16 0 t)) q ∙ digits-value 16 (omega arith) (omega arith) t 0 0 e
-
--- with no zero in front, but for the zero itself
-abbrev pub NoZero : List ℕ → Type 0
-NoZero [] = ⊥
-NoZero (c ∷ []) = Unit {0}
-NoZero (c ∷ (d ∷ t)) = c ≡ 48 → ⊥
 
 value-zero : (c : ℕ) (t : List ℕ) → valueFrom 10 0 (c ∷ t) ≡ valueFrom 10 (unglyph c) t
 unfolding valueFrom

@@ -1,12 +1,13 @@
 -- Numbers as text; a text is a list of bytes.
 -- Assumes nothing.
-use Prim.Native.Nat.{ℕ, zero, suc, _+_, _-_, _*_, _/_}
+use Prim.Native.Nat.{ℕ, zero, suc, _+_, _-_, _*_, _/_, _≤_, _<_}
+use mathlib.Core.Path.{_≡_}
 use mathlib.Core.List.{List, [], _∷_}
 use native.Mathlib.Decide.{decLt, ℕ-discrete}
 use lib.IntN.{ℤ, pos, negsuc}
 use Prim.Native.Char.{code}
 use Prim.Native.String.{String, [] as «end», _∷_ as _then_}
-use Rattle.io.specs.Digits.{digits}
+use Rattle.io.specs.Digits.{glyph, digits}
 
 -- the bytes of a plain text
 abbrev pub ascii : String → List ℕ
@@ -40,6 +41,18 @@ hex n = digits 16 16 n
 unfoldable pub unglyph : ℕ → ℕ
 unfolding decLt
 unglyph c = elim (decLt c 58) [ yes _ ↦ c - 48 | no _ ↦ c - 87 ]
+
+-- a digit of base b
+pub record Digit (b c : ℕ) : Type 0 where
+  pub least : 48 ≤ c
+  pub back : glyph (unglyph c) ≡ c
+  pub below : unglyph c < b
+
+-- digits with no zero (48) in front, but for the zero itself
+abbrev pub NoZero : List ℕ → Type 0
+NoZero [] = ⊥
+NoZero (c ∷ []) = Unit {0}
+NoZero (c ∷ (d ∷ t)) = c ≡ 48 → ⊥
 
 -- what digits stand for in base b, after digits that stand for a
 unfoldable pub valueFrom : ℕ → ℕ → List ℕ → ℕ

@@ -6,3 +6,10 @@ pub mod PieceLaws
 pub mod SizeLaws
 pub mod WriteLaws
 pub mod WriteSoundings
+pub mod PlaceLaws
+pub mod SeveralLaws
+pub mod ColumnLaws
+pub mod HeadLaws
+pub mod QueryLaws
+pub mod ScanLaws
+pub mod ReadingLaws

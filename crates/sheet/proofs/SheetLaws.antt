@@ -30,7 +30,7 @@ lawful-point =
     lawful-then (coordinateLine (ascii "y=")) (λ _. kitLine) (lawful-coordinate (ascii "y=") tt) (λ _.
     lawful-line (ascii "kit=") bits tt sound-bits))
 
-lawful-place : (i : ℕ) → Lawful (placePart i)
+pub lawful-place : (i : ℕ) → Lawful (placePart i)
 unfolding placePart
 lawful-place i = lawful-after (fixed (ascii "place=") (decimal i)) pointPart (lawful-line (ascii "place=") (word (decimal i)) tt (sound-decimal i)) lawful-point
 

@@ -4,9 +4,10 @@ use Prim.Native.Nat.{ℕ, zero, suc, _≤_}
 use mathlib.Core.List.{List, [], _∷_, _++_}
 use native.Mathlib.Decide.{decLe}
 use lib.Dec.{lit≤}
-use lib.ListN.{length, drop}
+use lib.ListN.{length}
 use Rattle.table.specs.Table.{Table, tableRules}
 use Rattle.verdict.specs.Rules.{Rule}
+use Rattle.sheet.specs.Lent.{over}
 use Rattle.sheet.specs.Sheet.{Held, sheetBytes}
 
 -- what the writer is asked to write
@@ -19,10 +20,6 @@ rule54 h room = record { code = 54; numbered = lit≤ tt; from = 0; many = 1; As
 
 abbrev pub writeRules : Held → ℕ → List Rule
 writeRules h room = tableRules (h .table) ++ rule54 h room ∷ []
-
--- a buffer with bytes written over its start: the rest keeps its contents
-abbrev pub over : List ℕ → List ℕ → List ℕ
-over used before = used ++ drop (length used) before
 
 -- the byte count and the buffer afterwards, by the refusal's number: in a refusal 0, and all is kept
 abbrev pub afterwards : ℕ → Held → List ℕ → ℕ × List ℕ

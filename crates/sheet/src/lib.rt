@@ -1,12 +1,17 @@
-// The place sheet, written into a lent buffer.
+// The place sheet: written into a lent buffer, and read into lent columns.
 ghost use mathlib.Core.Path.{_≡_};
 ghost use mathlib.Core.List.{List};
-ghost use Prim.Native.Nat.{ℕ, _+_, _≤_};
-ghost use lib.ListN.{length};
+ghost use Prim.Native.Nat.{ℕ, _+_, _≤_, _<_, min};
+ghost use lib.ListN.{length, drop};
+ghost use lib.IntN.{pos};
+ghost use Rattle.lines.specs.Line.{got};
+ghost use Rattle.lines.specs.Part.{several, fault};
+ghost use Rattle.lines.specs.Readers.{Read};
+ghost use Rattle.sheet.specs.Sheet.{placePart, queryPart, xOf, yOf, wordOf, readSheet, sheetBytes};
+ghost use Rattle.sheet.specs.Read.{headPart, passed, Fine, filled, roomIn, reading, sheetOf, columnAfter};
 ghost use Rattle.verdict.specs.Rules.{says, verdict};
 ghost use Rattle.table.specs.Table.{table, Even};
 ghost use Rattle.print.specs.Puts.{Puts};
-ghost use Rattle.sheet.specs.Sheet.{sheetBytes};
 ghost use Rattle.sheet.specs.Pieces.{headText, placeText, placesText, queryText};
 ghost use Rattle.sheet.specs.Write.{asked, writeRules, afterwards};
 
@@ -119,4 +124,340 @@ pub fn write(x: &[i32], y: &[i32], kit: &[u64], want: u64, budget: u32, out: &mu
         at: 0,
         bytes,
     }
+}
+
+// The lines of a place: code 0, or the code and the line of a refusal; where the next line begins; the place.
+struct PlaceLines {
+    code: u8,
+    at: usize,
+    next: usize,
+    x: i32,
+    y: i32,
+    kit: u64,
+}
+
+// The lines of all places.
+struct PlacesLines {
+    code: u8,
+    at: usize,
+    next: usize,
+}
+
+// The first two lines: code 0, or the code and the line of a refusal; where the next line begins; the place count.
+struct HeadLines {
+    code: u8,
+    at: usize,
+    next: usize,
+    places: usize,
+}
+
+// The last three lines.
+struct QueryLines {
+    code: u8,
+    at: usize,
+    next: usize,
+    want: u64,
+    budget: u32,
+}
+
+// What a sheet comes to: code 0, or the code and the line of a refusal; place count, want and budget, 0 in a refusal.
+pub struct Sheet {
+    pub code: u8,
+    pub at: usize,
+    pub places: usize,
+    pub want: u64,
+    pub budget: u32,
+}
+
+// The lines 1 and 2, which begin at `at`.
+fn head_at(src: &[u8], at: usize) -> HeadLines
+    requires { ⌜ at ≤ length (now src) ⌝ }
+    ensures { λ r. ⌜ Read (now (src .entry)) (headPart .read 1 (drop at (now (src .entry)))) 0 0 (r .code) (r .at) (r .next) (r .places) ⌝ }
+{
+    let a = lines::line_word(src, at, b"sheet=", b"1");
+    if a.code != 0 {
+        return HeadLines {
+            code: a.code,
+            at: 1,
+            next: 0,
+            places: 0,
+        };
+    }
+    let b = lines::line_number(src, a.next, b"places=", 4096);
+    if b.code != 0 {
+        return HeadLines {
+            code: b.code,
+            at: 2,
+            next: 0,
+            places: 0,
+        };
+    }
+    HeadLines {
+        code: 0,
+        at: 0,
+        next: b.next,
+        places: b.value as usize,
+    }
+}
+
+// A query whose line `at` is refused.
+fn no_query(code: u8, at: usize) -> QueryLines
+    ensures { λ r. ⌜ r ≡ record { code = code; at = at; next = 0; want = 0; budget = 0 } ⌝ }
+{
+    QueryLines {
+        code: code,
+        at: at,
+        next: 0,
+        want: 0,
+        budget: 0,
+    }
+}
+
+// The query, whose first line is number `line` and begins at `at`.
+fn query_at(src: &[u8], at: usize, line: usize) -> QueryLines
+    requires { ⌜ (at ≤ length (now src)) × (line ≤ 16390) ⌝ }
+    ensures { λ r. ⌜ Read (now (src .entry)) (queryPart .read line (drop at (now (src .entry)))) 0 (0, 0) (r .code) (r .at) (r .next) (r .want, r .budget) ⌝ }
+{
+    let a = lines::line_bits(src, at, b"want=");
+    if a.code != 0 {
+        return no_query(a.code, line);
+    }
+    let b = lines::line_number(src, a.next, b"budget=", 4294967295);
+    if b.code != 0 {
+        return no_query(b.code, line + 1);
+    }
+    let c = lines::line_word(src, b.next, b"end=", b"sheet");
+    if c.code != 0 {
+        return no_query(c.code, line + 2);
+    }
+    QueryLines {
+        code: 0,
+        at: 0,
+        next: c.next,
+        want: a.value,
+        budget: b.value as u32,
+    }
+}
+
+// A place whose line `at` is refused.
+fn no_place(code: u8, at: usize) -> PlaceLines
+    ensures { λ r. ⌜ r ≡ record { code = code; at = at; next = 0; x = pos 0; y = pos 0; kit = 0 } ⌝ }
+{
+    PlaceLines {
+        code: code,
+        at: at,
+        next: 0,
+        x: 0,
+        y: 0,
+        kit: 0,
+    }
+}
+
+// Place i, whose first line is number `line` and begins at `at`.
+fn place_at(src: &[u8], at: usize, i: usize, line: usize) -> PlaceLines
+    requires { ⌜ (at ≤ length (now src)) × ((i < 4096) × (line ≤ 16390)) ⌝ }
+    ensures { λ r. ⌜ Read (now (src .entry)) (placePart i .read line (drop at (now (src .entry)))) 0 (pos 0, (pos 0, 0)) (r .code) (r .at) (r .next) (r .x, (r .y, r .kit)) ⌝ }
+{
+    let a = lines::line_number(src, at, b"place=", 4095);
+    if a.code != 0 {
+        return no_place(a.code, line);
+    }
+    if a.value != i as u64 {
+        return no_place(52, line);
+    }
+    let b = lines::line_coordinate(src, a.next, b"x=");
+    if b.code != 0 {
+        return no_place(b.code, line + 1);
+    }
+    let c = lines::line_coordinate(src, b.next, b"y=");
+    if c.code != 0 {
+        return no_place(c.code, line + 2);
+    }
+    let d = lines::line_bits(src, c.next, b"kit=");
+    if d.code != 0 {
+        return no_place(d.code, line + 3);
+    }
+    PlaceLines {
+        code: 0,
+        at: 0,
+        next: d.next,
+        x: b.value,
+        y: c.value,
+        kit: d.value,
+    }
+}
+
+// The first pass over the places, which begin at `at` and line 3: nothing is stored.
+fn places_at(src: &[u8], at: usize, places: usize) -> PlacesLines
+    requires { ⌜ (at ≤ length (now src)) × (places ≤ 4096) ⌝ }
+    ensures { λ r. ⌜ Read (now (src .entry)) (passed (several placePart places 0 .read 3 (drop at (now (src .entry))))) 0 tt (r .code) (r .at) (r .next) tt ⌝ }
+{
+    let mut from = at;
+    let mut i = 0;
+    while i < places {
+        let p = place_at(src, from, i, 3 + 4 * i);
+        if p.code != 0 {
+            return PlacesLines {
+                code: p.code,
+                at: p.at,
+                next: 0,
+            };
+        }
+        from = p.next;
+        i += 1;
+    }
+    PlacesLines {
+        code: 0,
+        at: 0,
+        next: from,
+    }
+}
+
+// The second pass, which stores what the first has found in order.
+fn fill(src: &[u8], at: usize, places: usize, x: &mut [i32], y: &mut [i32], kit: &mut [u64])
+    requires { ⌜ (at ≤ length (now src)) × (places ≤ 4096) ⌝ }
+    requires { ⌜ (places ≤ length (now x)) × ((places ≤ length (now y)) × (places ≤ length (now kit))) ⌝ }
+    requires { ⌜ Fine (several placePart places 0 .read 3 (drop at (now src))) ⌝ }
+    ensures { λ _. ⌜ now (x .exit) ≡ filled xOf (several placePart places 0 .read 3 (drop at (now (src .entry)))) (now (x .entry)) ⌝ }
+    ensures { λ _. ⌜ now (y .exit) ≡ filled yOf (several placePart places 0 .read 3 (drop at (now (src .entry)))) (now (y .entry)) ⌝ }
+    ensures { λ _. ⌜ now (kit .exit) ≡ filled wordOf (several placePart places 0 .read 3 (drop at (now (src .entry)))) (now (kit .entry)) ⌝ }
+{
+    let mut from = at;
+    let mut i = 0;
+    while i < places {
+        let p = place_at(src, from, i, 3 + 4 * i);
+        let east = p.x;
+        let north = p.y;
+        x[i] = east;
+        y[i] = north;
+        kit[i] = p.kit;
+        from = p.next;
+        i += 1;
+    }
+}
+
+// A sheet that is refused.
+fn refused(code: u8, at: usize) -> Sheet
+    ensures { λ r. ⌜ r ≡ sheetOf (fault code at) ⌝ }
+{
+    Sheet {
+        code: code,
+        at: at,
+        places: 0,
+        want: 0,
+        budget: 0,
+    }
+}
+
+// All that follows the head, which ends at `at` and says how many places there are: nothing is stored.
+fn rest_at(src: &[u8], at: usize, places: usize) -> Sheet
+    requires { ⌜ (at ≤ length (now src)) × (headPart .read 1 (now src) ≡ got places (drop at (now src))) ⌝ }
+    ensures { λ r. ⌜ r ≡ sheetOf (readSheet (now (src .entry))) ⌝ }
+{
+    let p = places_at(src, at, places);
+    if p.code != 0 {
+        return refused(p.code, p.at);
+    }
+    let q = query_at(src, p.next, 3 + 4 * places);
+    if q.code != 0 {
+        return refused(q.code, q.at);
+    }
+    if q.next < src.len() {
+        return refused(53, 6 + 4 * places);
+    }
+    Sheet {
+        code: 0,
+        at: 0,
+        places: places,
+        want: q.want,
+        budget: q.budget,
+    }
+}
+
+// The sheet reader: the caller's bytes, and how far it has come.
+pub struct Reader<'a> {
+    pub src: &'a [u8],
+    pub at: usize,
+}
+
+// A reader that stands at the start.
+pub fn new<'a>(src: &'a [u8]) -> Reader<'a>
+    ensures { λ r. ⌜ (r .src ≡ src .entry) × (r .at ≡ 0) ⌝ }
+{
+    Reader { src, at: 0 }
+}
+
+// The reader, come as far as `at`.
+pub fn moved<'a>(r: Reader<'a>, at: usize) -> Reader<'a>
+    ensures { λ q. ⌜ (q .src ≡ r .entry .src) × (q .at ≡ at) ⌝ }
+{
+    Reader { src: r.src, at }
+}
+
+// The head, where the reader stands.
+fn head<'a>(r: Reader<'a>) -> HeadLines
+    requires { ⌜ r .at ≤ length (now (r .src)) ⌝ }
+    ensures { λ q. ⌜ Read (now (r .entry .src)) (headPart .read 1 (drop (r .entry .at) (now (r .entry .src)))) 0 0 (q .code) (q .at) (q .next) (q .places) ⌝ }
+{
+    head_at(r.src, r.at)
+}
+
+// All that follows the head, where the reader stands.
+fn rest<'a>(r: Reader<'a>, places: usize) -> Sheet
+    requires { ⌜ (r .at ≤ length (now (r .src))) × (headPart .read 1 (now (r .src)) ≡ got places (drop (r .at) (now (r .src)))) ⌝ }
+    ensures { λ q. ⌜ q ≡ sheetOf (readSheet (now (r .entry .src))) ⌝ }
+{
+    rest_at(r.src, r.at, places)
+}
+
+// The head of a sheet.
+fn head_of(src: &[u8]) -> HeadLines
+    ensures { λ r. ⌜ Read (now (src .entry)) (headPart .read 1 (now (src .entry))) 0 0 (r .code) (r .at) (r .next) (r .places) ⌝ }
+{
+    head(new(src))
+}
+
+// All that follows the head of a sheet.
+fn rest_of(src: &[u8], at: usize, places: usize) -> Sheet
+    requires { ⌜ (at ≤ length (now src)) × (headPart .read 1 (now src) ≡ got places (drop at (now src))) ⌝ }
+    ensures { λ r. ⌜ r ≡ sheetOf (readSheet (now (src .entry))) ⌝ }
+{
+    rest(moved(new(src), at), places)
+}
+
+// All of a sheet, of which nothing is stored.
+fn scan(src: &[u8]) -> Sheet
+    ensures { λ r. ⌜ r ≡ sheetOf (readSheet (now (src .entry))) ⌝ }
+{
+    let h = head_of(src);
+    if h.code != 0 {
+        return refused(h.code, h.at);
+    }
+    rest_of(src, h.next, h.places)
+}
+
+fn least(a: usize, b: usize) -> usize
+    ensures { λ r. ⌜ r ≡ min a b ⌝ }
+{
+    if a < b { a } else { b }
+}
+
+// Reads a sheet: 51 to 53 at the lowest line that is refused; then 54 where a lent column is shorter than the place count.
+// A refusal changes nothing that was lent; else the first values of each column are those of the places.
+pub fn read(src: &[u8], x: &mut [i32], y: &mut [i32], kit: &mut [u64]) -> Sheet
+    ensures { λ r. ⌜ r ≡ sheetOf (reading (now (src .entry)) (roomIn (now (x .entry)) (now (y .entry)) (now (kit .entry)))) ⌝ }
+    ensures { λ _. ⌜ now (x .exit) ≡ columnAfter (λ h. h .table .x) (reading (now (src .entry)) (roomIn (now (x .entry)) (now (y .entry)) (now (kit .entry)))) (now (x .entry)) ⌝ }
+    ensures { λ _. ⌜ now (y .exit) ≡ columnAfter (λ h. h .table .y) (reading (now (src .entry)) (roomIn (now (x .entry)) (now (y .entry)) (now (kit .entry)))) (now (y .entry)) ⌝ }
+    ensures { λ _. ⌜ now (kit .exit) ≡ columnAfter (λ h. h .table .kit) (reading (now (src .entry)) (roomIn (now (x .entry)) (now (y .entry)) (now (kit .entry)))) (now (kit .entry)) ⌝ }
+{
+    let r = scan(src);
+    if r.code != 0 {
+        return r;
+    }
+    if least(x.len(), least(y.len(), kit.len())) < r.places {
+        return refused(54, 0);
+    }
+    let h = head_of(src);
+    fill(src, h.next, h.places, x, y, kit);
+    r
 }

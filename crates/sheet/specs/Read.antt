@@ -1,0 +1,56 @@
+-- What reading a place sheet into lent columns comes to.
+-- Assumes nothing.
+use Prim.Native.Nat.{ℕ, min}
+use mathlib.Core.List.{List, map}
+use native.Mathlib.Decide.{decLe}
+use lib.IntN.{ℤ}
+use lib.ListN.{length}
+use Rattle.table.specs.Table.{places}
+use Rattle.lines.specs.Text.{ascii}
+use Rattle.lines.specs.Line.{Got, refused, got}
+use Rattle.lines.specs.Part.{Part, after, Outcome, fault, accepted}
+use Rattle.sheet.specs.declared.Sheet.{Sheet}
+use Rattle.sheet.specs.Lent.{over}
+use Rattle.sheet.specs.Sheet.{Held, Place, fixed, countLine, readSheet}
+
+-- how many places there is room for in each of the lent columns
+abbrev pub roomIn : List ℤ → List ℤ → List ℕ → ℕ
+roomIn x y kit = min (length x) (min (length y) (length kit))
+
+-- 54 where there is room for fewer than the sheet holds, after all other faults
+abbrev pub within : ℕ → Outcome Held → Outcome Held
+within room (fault c l) = fault c l
+within room (accepted h) = elim (decLe (places (h .table)) room) [ yes _ ↦ accepted h | no _ ↦ fault 54 0 ]
+
+unfoldable pub reading : List ℕ → ℕ → Outcome Held
+unfolding decLe
+reading s room = within room (readSheet s)
+
+-- the result: place count, want and budget are 0 in a refusal
+abbrev pub sheetOf : Outcome Held → Sheet
+sheetOf (fault c l) = record { code = c; at = l; places = 0; want = 0; budget = 0 }
+sheetOf (accepted h) = record { code = 0; at = 0; places = places (h .table); want = h .want; budget = h .budget }
+
+-- a column afterwards: a refusal changes nothing
+abbrev pub columnAfter : {A : Type 0} → (Held → List A) → Outcome Held → List A → List A
+columnAfter f (fault c l) before = before
+columnAfter f (accepted h) before = over (f h) before
+
+-- the first two lines
+unfoldable pub headPart : Part ℕ
+headPart = after (fixed (ascii "sheet=") (ascii "1")) countLine
+
+-- what was read, without its value
+abbrev pub passed : {A : Type 0} → Got A → Got (Unit {0})
+passed (refused c l) = refused c l
+passed (got a rest) = got tt rest
+
+-- what was read well
+abbrev pub Fine : {A : Type 0} → Got A → Type 0
+Fine (refused c l) = ⊥
+Fine (got a rest) = Unit {0}
+
+-- a column with what the places that were read say
+abbrev pub filled : {A : Type 0} → (Place → A) → Got (List Place) → List A → List A
+filled f (refused c l) before = before
+filled f (got l rest) before = over (map f l) before

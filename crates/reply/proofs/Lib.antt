@@ -1,2 +1,3 @@
 -- Laws of the program's answer.
 pub mod BuiltLaws
+pub mod ReplyLaws

@@ -1,1 +1,2 @@
 -- What is cited of the program's answer.
+pub mod Reply

@@ -21,7 +21,8 @@ pub struct Found {
     pub known: bool,
 }
 
-fn refuse(code: u8, at: usize) -> Found
+// Internal: a refused search.
+pub fn refuse(code: u8, at: usize) -> Found
     ensures { λ r. ⌜ r ≡ refused code at ⌝ }
 {
     Found {

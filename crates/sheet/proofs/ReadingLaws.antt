@@ -83,7 +83,7 @@ module _ (s : List ℕ) (h : Held) (e : readSheet s ≡ accepted h) where
       go (yes l) = absurd (omega arith)
       go (no _) = refl
 
-  fits : (room : ℕ) → places (h .table) ≤ room → reading s room ≡ accepted h
+  pub fits : (room : ℕ) → places (h .table) ≤ room → reading s room ≡ accepted h
   unfolding reading
   fits room l = ap (within room) e ∙ go (decLe (places (h .table)) room)
     where

@@ -9,3 +9,4 @@ pub mod HeadLaws
 pub mod QueryLaws
 pub mod ScanLaws
 pub mod ReadingLaws
+pub mod ReadSoundings

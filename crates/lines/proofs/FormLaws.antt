@@ -65,19 +65,31 @@ sound-bits = record {
   plain = λ n f. every-to (Digit 16) NoFeed (digit-feed 16) (hex n) (hex-digits n);
 }
 
-signed-digits : (t : List ℕ) → Every (Digit 10) t → NoZero t → signedValue t ≡ pos (valueFrom 10 0 t)
+-- what a coordinate stands for, by what its text begins with
+pub signed-minus : (c : ℕ) (t : List ℕ) → c ≡ 45 → signedValue (c ∷ t) ≡ minus (valueFrom 10 0 t)
 unfolding signedValue
-signed-digits [] e z = absurd z
-signed-digits (c ∷ t) e z = go (ℕ-discrete c 45)
+signed-minus c t e = go (ℕ-discrete c 45)
+  where
+    go : (d : Dec (c ≡ 45)) → elim d [ yes _ ↦ minus (valueFrom 10 0 t) | no _ ↦ pos (valueFrom 10 0 (c ∷ t)) ] ≡ minus (valueFrom 10 0 t)
+    go (yes _) = refl
+    go (no h) = absurd (h e)
+
+pub signed-no-minus : (c : ℕ) (t : List ℕ) → (c ≡ 45 → ⊥) → signedValue (c ∷ t) ≡ pos (valueFrom 10 0 (c ∷ t))
+unfolding signedValue
+signed-no-minus c t n = go (ℕ-discrete c 45)
   where
     go : (d : Dec (c ≡ 45)) → elim d [ yes _ ↦ minus (valueFrom 10 0 t) | no _ ↦ pos (valueFrom 10 0 (c ∷ t)) ] ≡ pos (valueFrom 10 0 (c ∷ t))
-    go (yes q) = absurd (omega (arith, e .0 .least))
-    go (no h) = refl
+    go (yes e) = absurd (n e)
+    go (no _) = refl
+
+signed-digits : (t : List ℕ) → Every (Digit 10) t → NoZero t → signedValue t ≡ pos (valueFrom 10 0 t)
+signed-digits [] e z = absurd z
+signed-digits (c ∷ t) e z = signed-no-minus c t (λ q. omega (arith, e .0 .least))
 
 signed-value : (z : ℤ) → natAbs z < 10 ^ 20 → signedValue (signed z) ≡ z
-unfolding signed signedValue
+unfolding signed
 signed-value (pos n) h = signed-digits (decimal n) (decimal-digits n) (decimal-plain n h) ∙ ap pos (decimal-value n h)
-signed-value (negsuc n) h = ap minus (decimal-value (suc n) h)
+signed-value (negsuc n) h = signed-minus 45 (decimal (suc n)) refl ∙ ap minus (decimal-value (suc n) h)
 
 signed-short : (z : ℤ) → length (signed z) ≤ 21
 unfolding signed

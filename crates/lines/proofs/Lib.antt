@@ -5,6 +5,7 @@ pub mod FormLaws
 pub mod LineLaws
 pub mod PartLaws
 pub mod CutLaws
+pub mod ValueLaws
 pub mod ParseLaws
 pub mod SignedLaws
 pub mod ReadLaws

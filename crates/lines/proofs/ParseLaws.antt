@@ -2,9 +2,8 @@
 -- Assumes nothing.
 use Prim.Native.Nat.{ℕ, zero, suc, _+_, _-_, _*_, _^_, _≤_, _<_}
 use mathlib.Core.Path.{_≡_, refl, ap, sym, _∙_, subst}
-use mathlib.Core.Bool.{true, false, not}
+use mathlib.Core.Bool.{not}
 use mathlib.Core.List.{List, [], _∷_, _++_}
-use native.Mathlib.Decide.{decLe}
 use native.Mathlib.Nat.{mul-one, mul-le-mul-left, one-le-pow, pow-le-pow-right}
 use native.Mathlib.Numerals.{add-one}
 use native.Mathlib.Omega.{arith}
@@ -13,28 +12,11 @@ use borrow.Author.Tests.{not-true, not-false, eqb-true, eqb-false}
 use lib.ListN.{length, take, drop, getD, take-append-drop}
 use lib.Seq.{take-suc, take-all, length-take-le}
 use Rattle.io.specs.Digits.{glyph}
-use Rattle.lines.specs.declared.Number.{Number}
 use Rattle.lines.specs.Text.{unglyph, Digit, NoZero, valueFrom}
-use Rattle.lines.specs.Form.{Form, InForm, inForm, natural, bits}
-use Rattle.lines.specs.Readers.{Decides, Nibble, numberOf}
+use Rattle.lines.specs.Form.{InForm, natural, bits}
+use Rattle.lines.specs.Readers.{Decides, Nibble}
 use Rattle.lines.proofs.DigitLaws.{Every, every-append, glyph-below, glyph-above, unglyph-low, unglyph-high, value-append, value-least, value-most}
 use Rattle.lines.proofs.FormLaws.{number-form, form-number, bits-form, form-bits}
-
-pub number-no : (f : Form ℕ) (t : List ℕ) → (InForm f t → ⊥) → record { ok = false; value = 0 } ≡ numberOf f t
-unfolding numberOf
-number-no f t n = go (inForm f t)
-  where
-    go : (d : Dec (InForm f t)) → _≡_ {A = Number} (record { ok = false; value = 0 }) (elim d [ yes _ ↦ record { ok = true; value = f .value t } | no _ ↦ record { ok = false; value = 0 } ])
-    go (yes h) = absurd (n h)
-    go (no _) = refl
-
-pub number-yes : (f : Form ℕ) (t : List ℕ) (v : ℕ) → InForm f t → v ≡ f .value t → record { ok = true; value = v } ≡ numberOf f t
-unfolding numberOf
-number-yes f t v h e = go (inForm f t)
-  where
-    go : (d : Dec (InForm f t)) → _≡_ {A = Number} (record { ok = true; value = v }) (elim d [ yes _ ↦ record { ok = true; value = f .value t } | no _ ↦ record { ok = false; value = 0 } ])
-    go (yes _) = ap (λ (w : ℕ). record { ok = true; value = w }) e
-    go (no n) = absurd (n h)
 
 -- no zero in front
 pub led-empty : (t : List ℕ) → length t ≡ 0 → NoZero t → ⊥
@@ -113,17 +95,6 @@ module _ (most : ℕ) (t : List ℕ) (small : most ≤ 4294967295) where
   pub good : (a i : ℕ) → Sofar 10 t a i → length t ≤ i → a ≤ most → NoZero t → InForm (natural most) t × (a ≡ valueFrom 10 0 t)
   good a i s h k z = let w = sofar-all 10 t a i s h in (form-number most (omega arith) t (w .1) z (omega (arith, w .0)), w .0)
 
--- what a number tells
-module _ (f : Form ℕ) (t : List ℕ) (n : Number) (e : n ≡ numberOf f t) where
-  pub number-told : (n .ok ≡ true → InForm f t × (n .value ≡ f .value t)) × (n .ok ≡ false → InForm f t → ⊥)
-  unfolding numberOf
-  number-told = go (inForm f t) e
-    where
-      go : (d : Dec (InForm f t)) → n ≡ elim d [ yes _ ↦ record { ok = true; value = f .value t } | no _ ↦ record { ok = false; value = 0 } ] →
-          (n .ok ≡ true → InForm f t × (n .value ≡ f .value t)) × (n .ok ≡ false → InForm f t → ⊥)
-      go (yes h) e = (λ _. (h, ap (λ (m : Number). m .value) e), λ q. absurd (let z : true ≡ false = sym (ap (λ (m : Number). m .ok) e) ∙ q in let y : _≡_ {A = ℕ} 0 1 = cc in omega arith))
-      go (no h) e = (λ q. absurd (let z : false ≡ true = sym (ap (λ (m : Number). m .ok) e) ∙ q in let y : _≡_ {A = ℕ} 0 1 = cc in omega arith), λ _. h)
-
 -- hexadecimal digits
 pub nibble-low : (c r : ℕ) → 48 ≤ c → c ≤ 57 → r ≡ c - 48 → Nibble c r
 nibble-low c r h k e =
@@ -147,11 +118,7 @@ pub nibble-none : (c : ℕ) → (Digit 16 c → ⊥) → Nibble c 16
 nibble-none c n = record { most = omega arith; digit = λ h. absurd (omega arith); none = λ _. n }
 
 pub between : (c : ℕ) → 57 < c → c < 97 → Digit 16 c → ⊥
-between c h k d = go (decLe 87 c)
-  where
-    go : Dec (87 ≤ c) → ⊥
-    go (yes l) = let u : unglyph c ≡ c - 87 = unglyph-high c h in omega (arith, sym (ap glyph u) ∙ d .back, glyph-below (c - 87) (omega arith))
-    go (no l) = let u : unglyph c ≡ c - 87 = unglyph-high c h in omega (arith, sym (ap glyph u) ∙ d .back, glyph-below (c - 87) (omega arith))
+between c h k d = let u : unglyph c ≡ c - 87 = unglyph-high c h in omega (arith, sym (ap glyph u) ∙ d .back, glyph-below (c - 87) (omega arith))
 
 pub beyond : (c : ℕ) → 102 < c → Digit 16 c → ⊥
 beyond c h d = omega (arith, unglyph-high c (omega arith), d .below)

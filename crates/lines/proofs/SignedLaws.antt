@@ -2,9 +2,7 @@
 -- Assumes nothing.
 use Prim.Native.Nat.{ℕ, zero, suc, _-_, _≤_}
 use mathlib.Core.Path.{_≡_, refl, ap, sym, _∙_, subst}
-use mathlib.Core.Bool.{true, false}
 use mathlib.Core.List.{List, [], _∷_}
-use native.Mathlib.Decide.{ℕ-discrete}
 use native.Mathlib.Omega.{arith}
 use lib.ListN.{length, getD, drop}
 use lib.IntN.{ℤ, pos, negsuc, natAbs, _-ℤ_}
@@ -12,56 +10,11 @@ use borrow.Author.Tests.{lt-ltb}
 use mir.Syntax.{w32}
 use mir.Val.{SFits, toZ, ofZ}
 use mir.Facts.{toZ-pos, toZ-ofZ}
-use Rattle.lines.specs.declared.Coordinate.{Coordinate}
 use Rattle.lines.specs.Text.{Digit, NoZero, decimal, signed, signedValue, minus, valueFrom}
-use Rattle.lines.specs.Form.{Form, InForm, inForm, natural, coordinate}
-use Rattle.lines.specs.Readers.{coordinateOf}
+use Rattle.lines.specs.Form.{InForm, natural, coordinate}
 use Rattle.lines.proofs.DigitLaws.{Every}
+use Rattle.lines.proofs.FormLaws.{signed-minus, signed-no-minus}
 use Rattle.lines.proofs.NumberLaws.{decimal-digits, decimal-plain}
-
-pub coordinate-no : (f : Form ℤ) (t : List ℕ) → (InForm f t → ⊥) → record { ok = false; value = pos 0 } ≡ coordinateOf f t
-unfolding coordinateOf
-coordinate-no f t n = go (inForm f t)
-  where
-    go : (d : Dec (InForm f t)) → _≡_ {A = Coordinate} (record { ok = false; value = pos 0 }) (elim d [ yes _ ↦ record { ok = true; value = f .value t } | no _ ↦ record { ok = false; value = pos 0 } ])
-    go (yes h) = absurd (n h)
-    go (no _) = refl
-
-pub coordinate-yes : (f : Form ℤ) (t : List ℕ) (v : ℤ) → InForm f t → v ≡ f .value t → record { ok = true; value = v } ≡ coordinateOf f t
-unfolding coordinateOf
-coordinate-yes f t v h e = go (inForm f t)
-  where
-    go : (d : Dec (InForm f t)) → _≡_ {A = Coordinate} (record { ok = true; value = v }) (elim d [ yes _ ↦ record { ok = true; value = f .value t } | no _ ↦ record { ok = false; value = pos 0 } ])
-    go (yes _) = ap (λ (w : ℤ). record { ok = true; value = w }) e
-    go (no n) = absurd (n h)
-
--- what a coordinate tells
-module _ (f : Form ℤ) (t : List ℕ) (n : Coordinate) (e : n ≡ coordinateOf f t) where
-  pub coordinate-told : (n .ok ≡ true → InForm f t × (n .value ≡ f .value t)) × (n .ok ≡ false → InForm f t → ⊥)
-  unfolding coordinateOf
-  coordinate-told = go (inForm f t) e
-    where
-      go : (d : Dec (InForm f t)) → n ≡ elim d [ yes _ ↦ record { ok = true; value = f .value t } | no _ ↦ record { ok = false; value = pos 0 } ] →
-          (n .ok ≡ true → InForm f t × (n .value ≡ f .value t)) × (n .ok ≡ false → InForm f t → ⊥)
-      go (yes h) e = (λ _. (h, ap (λ (m : Coordinate). m .value) e), λ q. absurd (let z : true ≡ false = sym (ap (λ (m : Coordinate). m .ok) e) ∙ q in let y : _≡_ {A = ℕ} 0 1 = cc in omega arith))
-      go (no h) e = (λ q. absurd (let z : false ≡ true = sym (ap (λ (m : Coordinate). m .ok) e) ∙ q in let y : _≡_ {A = ℕ} 0 1 = cc in omega arith), λ _. h)
-
--- what the text of a coordinate begins with
-signed-minus : (c : ℕ) (t : List ℕ) → c ≡ 45 → signedValue (c ∷ t) ≡ minus (valueFrom 10 0 t)
-unfolding signedValue
-signed-minus c t e = go (ℕ-discrete c 45)
-  where
-    go : (d : Dec (c ≡ 45)) → elim d [ yes _ ↦ minus (valueFrom 10 0 t) | no _ ↦ pos (valueFrom 10 0 (c ∷ t)) ] ≡ minus (valueFrom 10 0 t)
-    go (yes _) = refl
-    go (no h) = absurd (h e)
-
-signed-no-minus : (c : ℕ) (t : List ℕ) → (c ≡ 45 → ⊥) → signedValue (c ∷ t) ≡ pos (valueFrom 10 0 (c ∷ t))
-unfolding signedValue
-signed-no-minus c t n = go (ℕ-discrete c 45)
-  where
-    go : (d : Dec (c ≡ 45)) → elim d [ yes _ ↦ minus (valueFrom 10 0 t) | no _ ↦ pos (valueFrom 10 0 (c ∷ t)) ] ≡ pos (valueFrom 10 0 (c ∷ t))
-    go (yes e) = absurd (n e)
-    go (no _) = refl
 
 signed-zero : signedValue [] ≡ pos 0
 unfolding signedValue

@@ -35,14 +35,16 @@ pub record Nibble (c r : ℕ) : Type 0 where
   pub digit : r < 16 → Digit 16 c × (unglyph c ≡ r)
   pub none : r ≡ 16 → Digit 16 c → ⊥
 
--- the value of a text that is in form; 0 where it is not
-unfoldable pub numberOf : Form ℕ → List ℕ → Number
+-- the value of a text that is in form; `bad` where it is not
+unfoldable pub valueOf : {A B : Type 0} → (A → B) → B → Form A → List ℕ → B
 unfolding inForm
-numberOf f t = elim (inForm f t) [ yes _ ↦ record { ok = true; value = f .value t } | no _ ↦ record { ok = false; value = 0 } ]
+valueOf good bad f t = elim (inForm f t) [ yes _ ↦ good (f .value t) | no _ ↦ bad ]
 
-unfoldable pub coordinateOf : Form ℤ → List ℕ → Coordinate
-unfolding inForm
-coordinateOf f t = elim (inForm f t) [ yes _ ↦ record { ok = true; value = f .value t } | no _ ↦ record { ok = false; value = pos 0 } ]
+abbrev pub numberOf : Form ℕ → List ℕ → Number
+numberOf f t = valueOf (λ v. record { ok = true; value = v }) (record { ok = false; value = 0 }) f t
+
+abbrev pub coordinateOf : Form ℤ → List ℕ → Coordinate
+coordinateOf f t = valueOf (λ v. record { ok = true; value = v }) (record { ok = false; value = pos 0 }) f t
 
 -- where the value of the line at `at` stands, if the line has the due key
 pub record Due (s : List ℕ) (at : ℕ) (key : List ℕ) (v : Value) : Type 0 where

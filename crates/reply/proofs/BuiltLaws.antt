@@ -6,13 +6,11 @@ use Prim.Native.Nat.{ℕ, _≤_}
 use native.Mathlib.Omega.{arith}
 use lib.ListN.{length, take, drop}
 use lib.Seq.{take-at, drop-nil}
-use lib.IntN.{ℤ}
-use Rattle.table.specs.Table.{Table, places, Valid, tableRules}
+use Rattle.table.specs.Table.{Table, places, Valid}
 use Rattle.table.proofs.TableLaws.{valid-even}
 use Rattle.tree.specs.Tree.{Tree}
 use Rattle.tree.specs.Lent.{shape, sides, tree}
 use Rattle.tree.specs.Rules.{Room, lengths, treeRules}
-use Rattle.tree.specs.declared.Lengths.{Lengths}
 use Rattle.verdict.specs.Rules.{AllHold, verdict, says}
 use Rattle.verdict.specs.declared.Verdict.{Verdict}
 use Rattle.tree.proofs.TreeLaws.{meets-of}

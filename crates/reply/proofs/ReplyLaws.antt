@@ -75,15 +75,14 @@ module _ {s : List ℕ} {r : Sheet} {x y : List ℤ} {kit : List ℕ} (k : Took 
 
 module _ (s : List ℕ) (x y : List ℤ) (kit : List ℕ) (wide : (4096 ≤ length x) × ((4096 ≤ length y) × (4096 ≤ length kit))) where
   -- the columns have room for every sheet
-  read-all : reading s (roomIn x y kit) ≡ readSheet s
-  unfolding reading
+  read-all : reading s x y kit ≡ readSheet s
   read-all = go (readSheet s) refl
     where
-      go : (o : Outcome Held) → readSheet s ≡ o → reading s (roomIn x y kit) ≡ readSheet s
+      go : (o : Outcome Held) → readSheet s ≡ o → reading s x y kit ≡ readSheet s
       go (fault c l) e = ap (within (roomIn x y kit)) e ∙ sym e
       go (accepted h) e = fits s h e (roomIn x y kit) (omega (arith, valid-even (valid-held s h e) .few)) ∙ sym e
 
-  module _ (r : Sheet) (is : r ≡ sheetOf (reading s (roomIn x y kit))) where
+  module _ (r : Sheet) (is : r ≡ sheetOf (reading s x y kit)) where
     read-is : r ≡ sheetOf (readSheet s)
     read-is = is ∙ ap (λ (o : Outcome Held). sheetOf o) read-all
 
@@ -97,7 +96,7 @@ module _ (s : List ℕ) (x y : List ℤ) (kit : List ℕ) (wide : (4096 ≤ leng
 
     -- a sheet that is accepted
     pub took : r .code ≡ 0 → {x′ y′ : List ℤ} {kit′ : List ℕ} →
-        x′ ≡ columnAfter (λ h. h .table .x) (reading s (roomIn x y kit)) x → y′ ≡ columnAfter (λ h. h .table .y) (reading s (roomIn x y kit)) y → kit′ ≡ columnAfter (λ h. h .table .kit) (reading s (roomIn x y kit)) kit →
+        x′ ≡ columnAfter (λ h. h .table .x) (reading s x y kit) x → y′ ≡ columnAfter (λ h. h .table .y) (reading s x y kit) y → kit′ ≡ columnAfter (λ h. h .table .kit) (reading s x y kit) kit →
         Took s r x′ y′ kit′
     took z e f g =
         let a = is-accepted s r read-is z in

@@ -13,3 +13,4 @@ pub mod HeadLaws
 pub mod QueryLaws
 pub mod ScanLaws
 pub mod ReadingLaws
+pub mod ReadSoundings

@@ -14,9 +14,10 @@ use Rattle.lines.specs.Line.{Got, refused, got}
 use Rattle.lines.specs.Part.{andThen, after, several, Outcome, fault, accepted}
 use Rattle.lines.proofs.CodeLaws.{Codes, codes-line, codes-then, codes-viewed, codes-after, codes-before, codes-several, codes-all}
 use Rattle.sheet.specs.declared.Sheet.{Sheet}
-use Rattle.sheet.specs.Sheet.{Held, Place, fixed, coordinateLine, kitLine, pointPart, placePart, wantLine, budgetLine, queryPart, countLine, bodyPart, xOf, yOf, wordOf, columns, held, counted, sheetPart, readSheet}
-use Rattle.sheet.specs.Read.{reading, within, sheetOf, columnAfter, headPart, passed, Fine, filled}
+use Rattle.sheet.specs.Sheet.{Held, Writable, Place, fixed, coordinateLine, kitLine, pointPart, placePart, wantLine, budgetLine, queryPart, countLine, bodyPart, xOf, yOf, wordOf, columns, held, counted, sheetPart, sheetBytes, readSheet}
+use Rattle.sheet.specs.Read.{within, sheetOf, columnAfter, headPart, passed, Fine, filled}
 use Rattle.sheet.specs.Lent.{over}
+use Rattle.sheet.proofs.SheetLaws.{read-written, written-read}
 use Rattle.sheet.proofs.ScanLaws.{scan-1, scan-2, scan-3, scan-53, scan-accepted, found, found-read, many}
 
 -- a refused sheet has code 51, 52 or 53
@@ -57,8 +58,7 @@ module _ (s : List ℕ) (r : Sheet) (e : r ≡ sheetOf (readSheet s)) where
   result : (o : Outcome Held) → readSheet s ≡ o → r ≡ sheetOf o
   result o f = e ∙ ap (λ (o : Outcome Held). sheetOf o) f
 
-  pub done-refused : (room : ℕ) (x y : List ℤ) (k : List ℕ) → (r .code ≡ 0 → ⊥) → Done (reading s room) r x y k x y k
-  unfolding reading
+  pub done-refused : (room : ℕ) (x y : List ℤ) (k : List ℕ) → (r .code ≡ 0 → ⊥) → Done (within room (readSheet s)) r x y k x y k
   done-refused room x y k n = go (readSheet s) refl
     where
       go : (o : Outcome Held) → readSheet s ≡ o → Done (within room (readSheet s)) r x y k x y k
@@ -75,16 +75,14 @@ module _ (s : List ℕ) (r : Sheet) (e : r ≡ sheetOf (readSheet s)) where
 
 module _ (s : List ℕ) (h : Held) (e : readSheet s ≡ accepted h) where
   -- 54 comes after all other faults
-  pub done-54 : (room : ℕ) (r : Sheet) (x y : List ℤ) (k : List ℕ) → r ≡ sheetOf (fault 54 0) → room < places (h .table) → Done (reading s room) r x y k x y k
-  unfolding reading
+  pub done-54 : (room : ℕ) (r : Sheet) (x y : List ℤ) (k : List ℕ) → r ≡ sheetOf (fault 54 0) → room < places (h .table) → Done (within room (readSheet s)) r x y k x y k
   done-54 room r x y k f n = unchanged (within room (readSheet s)) 54 0 r x y k (ap (within room) e ∙ go (decLe (places (h .table)) room)) f
     where
       go : (d : Dec (places (h .table) ≤ room)) → _≡_ {A = Outcome Held} (elim d [ yes _ ↦ accepted h | no _ ↦ fault 54 0 ]) (fault 54 0)
       go (yes l) = absurd (omega arith)
       go (no _) = refl
 
-  pub fits : (room : ℕ) → places (h .table) ≤ room → reading s room ≡ accepted h
-  unfolding reading
+  pub fits : (room : ℕ) → places (h .table) ≤ room → within room (readSheet s) ≡ accepted h
   fits room l = ap (within room) e ∙ go (decLe (places (h .table)) room)
     where
       go : (d : Dec (places (h .table) ≤ room)) → elim d [ yes _ ↦ accepted h | no _ ↦ fault 54 0 ] ≡ accepted h
@@ -140,7 +138,7 @@ module _ (s : List ℕ) (h : Held) (e : readSheet s ≡ accepted h) where
 
     -- and the columns are filled with them
     module _ (room : ℕ) (enough : places (h .table) ≤ room) where
-      column : {A : Type 0} (f : Place → A) (col : Table → List A) → ((l : List Place) → map f l ≡ col (columns l)) → (x x′ : List A) → x′ ≡ filled f (several placePart p 0 .read 3 r) x → x′ ≡ columnAfter (λ h. col (h .table)) (reading s room) x
+      column : {A : Type 0} (f : Place → A) (col : Table → List A) → ((l : List Place) → map f l ≡ col (columns l)) → (x x′ : List A) → x′ ≡ filled f (several placePart p 0 .read 3 r) x → x′ ≡ columnAfter (λ h. col (h .table)) (within room (readSheet s)) x
       column f col same x x′ q =
           q
           ∙ ap (λ (g : Got (List Place)). filled f g x) (stands .read)
@@ -149,8 +147,23 @@ module _ (s : List ℕ) (h : Held) (e : readSheet s ≡ accepted h) where
 
       pub done-read : (a : Sheet) (x y : List ℤ) (k : List ℕ) (x′ y′ : List ℤ) (k′ : List ℕ) → a ≡ sheetOf (accepted h) →
           (x′ ≡ filled xOf (several placePart p 0 .read 3 r) x) × ((y′ ≡ filled yOf (several placePart p 0 .read 3 r) y) × (k′ ≡ filled wordOf (several placePart p 0 .read 3 r) k)) →
-          Done (reading s room) a x y k x′ y′ k′
+          Done (within room (readSheet s)) a x y k x′ y′ k′
       done-read a x y k x′ y′ k′ q w = (
         q ∙ ap (λ (o : Outcome Held). sheetOf o) (sym (fits room enough)),
         (column xOf (λ t. t .x) (λ l. refl) x x′ (w .0), (column yOf (λ t. t .y) (λ l. refl) y y′ (w .1 .0), column wordOf (λ t. t .kit) (λ l. refl) k k′ (w .1 .1))),
       )
+
+-- both round trips, through lent columns with room enough
+pub within-written : (h : Held) → Writable h → (room : ℕ) → places (h .table) ≤ room → within room (readSheet (sheetBytes h)) ≡ accepted h
+within-written h w room l = fits (sheetBytes h) h (read-written h w) room l
+
+pub written-within : (s : List ℕ) (room : ℕ) (h : Held) → within room (readSheet s) ≡ accepted h → Writable h × (sheetBytes h ≡ s)
+written-within s room h e = go (readSheet s) refl
+  where
+    go : (o : Outcome Held) → readSheet s ≡ o → Writable h × (sheetBytes h ≡ s)
+    go (fault c l) f = absurd (let q : fault c l ≡ accepted h = sym (ap (within room) f) ∙ e in let z : _≡_ {A = ℕ} 0 1 = cc in omega arith)
+    go (accepted g) f = in-room (decLe (places (g .table)) room) (sym (ap (within room) f) ∙ e)
+      where
+        in-room : (d : Dec (places (g .table) ≤ room)) → elim d [ yes _ ↦ accepted g | no _ ↦ fault 54 0 ] ≡ accepted h → Writable h × (sheetBytes h ≡ s)
+        in-room (yes _) q = let k : g ≡ h = cc in written-read s h (f ∙ ap accepted k)
+        in-room (no _) q = absurd (let z : _≡_ {A = ℕ} 0 1 = cc in omega arith)

@@ -21,8 +21,11 @@ use Rattle.sheet.proofs.SeveralLaws.{pair, several-lines}
 abbrev afterPlaces : ℕ → List Place → List ℕ → Got (List Place × (ℕ × ℕ))
 afterPlaces p l r = next (queryPart .read (3 + several placePart p 0 .lines l) r) (pair l)
 
+abbrev toHeld : ℕ → List Place × (ℕ × ℕ) → List ℕ → Got Held
+toHeld p w r = got (held (p, w)) r
+
 abbrev afterHead : ℕ → List ℕ → Got Held
-afterHead p r = next (next (several placePart p 0 .read 3 r) (afterPlaces p)) (λ w r′. got (held (p, w)) r′)
+afterHead p r = next (next (several placePart p 0 .read 3 r) (afterPlaces p)) (toHeld p)
 
 -- the sheet is read as its head and then the rest
 abbrev second : {A B : Type 0} → A × B → List ℕ → Got B
@@ -76,7 +79,7 @@ module _ (s : List ℕ) where
 
     pub scan-2 : (c l : ℕ) → passed (several placePart p 0 .read 3 r) ≡ refused c l → readSheet s ≡ fault c l
     unfolding readSheet readAll
-    scan-2 c l f = ap (ended sheetPart) (head-read ∙ ap (λ (g : Got (List Place)). next (next g (afterPlaces p)) (λ w r′. got (held (p, w)) r′)) (refusal-passed (several placePart p 0 .read 3 r) c l f))
+    scan-2 c l f = ap (ended sheetPart) (head-read ∙ ap (λ (g : Got (List Place)). next (next g (afterPlaces p)) (toHeld p)) (refusal-passed (several placePart p 0 .read 3 r) c l f))
 
     module _ (r2 : List ℕ) (f : passed (several placePart p 0 .read 3 r) ≡ got tt r2) where
       -- the places that are found
@@ -89,22 +92,22 @@ module _ (s : List ℕ) where
       pub many : length found ≡ p
       many = count-read p 3 r found r2 found-read
 
-      places-read : sheetPart .read 1 s ≡ next (next (queryPart .read (3 + 4 * p) r2) (pair found)) (λ w r′. got (held (p, w)) r′)
+      places-read : sheetPart .read 1 s ≡ next (next (queryPart .read (3 + 4 * p) r2) (pair found)) (toHeld p)
       places-read =
           head-read
-          ∙ ap (λ (g : Got (List Place)). next (next g (afterPlaces p)) (λ w r′. got (held (p, w)) r′)) found-read
-          ∙ ap (λ (n : ℕ). next (next (queryPart .read (3 + n) r2) (pair found)) (λ w r′. got (held (p, w)) r′)) (several-lines placePart 4 place-lines p 0 found many)
+          ∙ ap (λ (g : Got (List Place)). next (next g (afterPlaces p)) (toHeld p)) found-read
+          ∙ ap (λ (n : ℕ). next (next (queryPart .read (3 + n) r2) (pair found)) (toHeld p)) (several-lines placePart 4 place-lines p 0 found many)
 
       pub scan-3 : (c l : ℕ) → queryPart .read (3 + 4 * p) r2 ≡ refused c l → readSheet s ≡ fault c l
       unfolding readSheet readAll
-      scan-3 c l g = ap (ended sheetPart) (places-read ∙ ap (λ (k : Got (ℕ × ℕ)). next (next k (pair found)) (λ w r′. got (held (p, w)) r′)) g)
+      scan-3 c l g = ap (ended sheetPart) (places-read ∙ ap (λ (k : Got (ℕ × ℕ)). next (next k (pair found)) (toHeld p)) g)
 
       module _ (q : ℕ × ℕ) (r3 : List ℕ) (g : queryPart .read (3 + 4 * p) r2 ≡ got q r3) where
         abbrev whole : Held
         whole = held (p, (found, q))
 
         query-read : sheetPart .read 1 s ≡ got whole r3
-        query-read = places-read ∙ ap (λ (k : Got (ℕ × ℕ)). next (next k (pair found)) (λ w r′. got (held (p, w)) r′)) g
+        query-read = places-read ∙ ap (λ (k : Got (ℕ × ℕ)). next (next k (pair found)) (toHeld p)) g
 
         counted-places : places (whole .table) ≡ p
         counted-places = length-map found xOf ∙ many

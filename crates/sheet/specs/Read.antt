@@ -22,9 +22,9 @@ abbrev pub within : ℕ → Outcome Held → Outcome Held
 within room (fault c l) = fault c l
 within room (accepted h) = elim (decLe (places (h .table)) room) [ yes _ ↦ accepted h | no _ ↦ fault 54 0 ]
 
-unfoldable pub reading : List ℕ → ℕ → Outcome Held
-unfolding decLe
-reading s room = within room (readSheet s)
+-- what reading bytes into lent columns comes to
+abbrev pub reading : List ℕ → List ℤ → List ℤ → List ℕ → Outcome Held
+reading s x y kit = within (roomIn x y kit) (readSheet s)
 
 -- the result: place count, want and budget are 0 in a refusal
 abbrev pub sheetOf : Outcome Held → Sheet

@@ -8,7 +8,7 @@ ghost use Rattle.lines.specs.Line.{got};
 ghost use Rattle.lines.specs.Part.{several, fault};
 ghost use Rattle.lines.specs.Readers.{Read};
 ghost use Rattle.sheet.specs.Sheet.{placePart, queryPart, xOf, yOf, wordOf, readSheet, sheetBytes};
-ghost use Rattle.sheet.specs.Read.{headPart, passed, Fine, filled, roomIn, reading, sheetOf, columnAfter};
+ghost use Rattle.sheet.specs.Read.{headPart, passed, Fine, filled, reading, sheetOf, columnAfter};
 ghost use Rattle.verdict.specs.Rules.{says, verdict};
 ghost use Rattle.table.specs.Table.{table, Even};
 ghost use Rattle.print.specs.Puts.{Puts};
@@ -445,10 +445,10 @@ fn least(a: usize, b: usize) -> usize
 // Reads a sheet: 51 to 53 at the lowest line that is refused; then 54 where a lent column is shorter than the place count.
 // A refusal changes nothing that was lent; else the first values of each column are those of the places.
 pub fn read(src: &[u8], x: &mut [i32], y: &mut [i32], kit: &mut [u64]) -> Sheet
-    ensures { λ r. ⌜ r ≡ sheetOf (reading (now (src .entry)) (roomIn (now (x .entry)) (now (y .entry)) (now (kit .entry)))) ⌝ }
-    ensures { λ _. ⌜ now (x .exit) ≡ columnAfter (λ h. h .table .x) (reading (now (src .entry)) (roomIn (now (x .entry)) (now (y .entry)) (now (kit .entry)))) (now (x .entry)) ⌝ }
-    ensures { λ _. ⌜ now (y .exit) ≡ columnAfter (λ h. h .table .y) (reading (now (src .entry)) (roomIn (now (x .entry)) (now (y .entry)) (now (kit .entry)))) (now (y .entry)) ⌝ }
-    ensures { λ _. ⌜ now (kit .exit) ≡ columnAfter (λ h. h .table .kit) (reading (now (src .entry)) (roomIn (now (x .entry)) (now (y .entry)) (now (kit .entry)))) (now (kit .entry)) ⌝ }
+    ensures { λ r. ⌜ r ≡ sheetOf (reading (now (src .entry)) (now (x .entry)) (now (y .entry)) (now (kit .entry))) ⌝ }
+    ensures { λ _. ⌜ now (x .exit) ≡ columnAfter (λ h. h .table .x) (reading (now (src .entry)) (now (x .entry)) (now (y .entry)) (now (kit .entry))) (now (x .entry)) ⌝ }
+    ensures { λ _. ⌜ now (y .exit) ≡ columnAfter (λ h. h .table .y) (reading (now (src .entry)) (now (x .entry)) (now (y .entry)) (now (kit .entry))) (now (y .entry)) ⌝ }
+    ensures { λ _. ⌜ now (kit .exit) ≡ columnAfter (λ h. h .table .kit) (reading (now (src .entry)) (now (x .entry)) (now (y .entry)) (now (kit .entry))) (now (kit .entry)) ⌝ }
 {
     let r = scan(src);
     if r.code != 0 {

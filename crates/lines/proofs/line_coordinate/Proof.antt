@@ -9,7 +9,7 @@ use borrow.Author.Tests.{not-true, not-false}
 use lib.IntN.{pos}
 use Rattle.lines.specs.Form.{coordinate}
 use Rattle.lines.proofs.ReadLaws.{tells-51, tells-52, tells-value}
-use Rattle.lines.proofs.SignedLaws.{coordinate-told}
+use Rattle.lines.proofs.ValueLaws.{coordinate-told}
 use borrow.Author.Needs.{needs}
 use Rattle.lines.proofs.line_coordinate.Statement.{statement}
 use Rattle.lines.proofs.line_coordinate.Tie as tie

@@ -4,7 +4,7 @@ use lib.ListN.{length}
 use borrow.Author.Tests.{not-true, not-false}
 use Rattle.lines.specs.Form.{natural}
 use Rattle.lines.proofs.ReadLaws.{tells-51, tells-52, tells-value}
-use Rattle.lines.proofs.ParseLaws.{number-told}
+use Rattle.lines.proofs.ValueLaws.{number-told}
 use borrow.Author.Needs.{needs}
 use Rattle.lines.proofs.line_number.Statement.{statement}
 use Rattle.lines.proofs.line_number.Tie as tie

@@ -4,7 +4,8 @@ use Prim.Native.Nat.{_*_, ℕ, _+_, _-_, _≤_}
 use borrow.Author.Tests.{not-true, not-false}
 use native.Mathlib.Omega.{arith}
 use lib.ListN.{length, getD}
-use Rattle.lines.proofs.ParseLaws.{number-no, number-yes, Sofar, sofar-none, sofar-more, bad-digit, bad-lead, bad-most, good, digit-make, digit-most}
+use Rattle.lines.proofs.ParseLaws.{Sofar, sofar-none, sofar-more, bad-digit, bad-lead, bad-most, good, digit-make, digit-most}
+use Rattle.lines.proofs.ValueLaws.{number-no, number-yes}
 use borrow.Author.Needs.{needs}
 use Rattle.lines.proofs.parse.Statement.{statement}
 use Rattle.lines.proofs.parse.Tie as tie

@@ -2,9 +2,10 @@ use Prim.Native.Nat.{ℕ, _+_, _-_, _*_}
 use mathlib.Core.Path.{_≡_, subst}
 use native.Mathlib.Omega.{arith}
 use lib.ListN.{length, getD}
+use Rattle.lines.proofs.ValueLaws.{number-no, number-yes}
 use borrow.Author.Needs.{needs}
 use Rattle.lines.specs.Text.{unglyph, Digit}
-use Rattle.lines.proofs.ParseLaws.{number-no, number-yes, Sofar, sofar-none, sofar-more, sofar-below, room, bits-length, bits-digit, bits-good}
+use Rattle.lines.proofs.ParseLaws.{Sofar, sofar-none, sofar-more, sofar-below, room, bits-length, bits-digit, bits-good}
 use Rattle.lines.proofs.parse_bits.Statement.{statement}
 use Rattle.lines.proofs.parse_bits.Tie as tie
 

@@ -11,8 +11,8 @@ use mir.Syntax.{w32}
 use mir.Facts.{toZ-pos}
 use borrow.Author.Tests.{not-true, not-false}
 use Rattle.lines.specs.Readers.{numberOf}
-use Rattle.lines.proofs.ParseLaws.{number-told}
-use Rattle.lines.proofs.SignedLaws.{coordinate-no, coordinate-yes, none-empty, minus-bad, minus-zero, minus-good, plain-bad, plain-good, neg-fits, neg-held}
+use Rattle.lines.proofs.SignedLaws.{none-empty, minus-bad, minus-zero, minus-good, plain-bad, plain-good, neg-fits, neg-held}
+use Rattle.lines.proofs.ValueLaws.{number-told, coordinate-no, coordinate-yes}
 use borrow.Author.Needs.{needs}
 use Rattle.lines.proofs.parse_coordinate.Statement.{statement}
 use Rattle.lines.proofs.parse_coordinate.Tie as tie

@@ -1,8 +1,7 @@
 use mathlib.Core.Path.{_≡_, sym, ap, subst, _∙_}
-use lib.ListN.{length, take}
 use lib.Seq.{length-take-le}
 use borrow.Author.Needs.{needs}
-use Rattle.table.specs.Table.{Table, table, Valid}
+use Rattle.table.specs.Table.{Table, table}
 use Rattle.tree.specs.Tree.{Tree}
 use Rattle.tree.specs.Lent.{shape, sides, tree}
 use Rattle.tree.specs.Rules.{Room, lengths}

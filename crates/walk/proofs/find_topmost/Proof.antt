@@ -56,7 +56,7 @@ loop-again c =
       omega arith,
       λ t w d e.
           let h = here (c .before .before .before) t w d e in
-          sym (lead-more (w .shape) (l .i) (l .most) d (l .j) _ (h .0) (h .1) (c .if1 .taken)) ∙ l .inv .1 t w d e,
+          sym (lead-more (w .shape) (l .i) (l .most) d (l .j) _ (h .0) (h .1) (omega (arith, c .if1 .taken))) ∙ l .inv .1 t w d e,
     )
 
 loop-less-2 : tie.Need-loop-less-2 Inv-loop μ-loop
@@ -68,7 +68,7 @@ loop-again-2 c =
       l .inv .0,
       λ t w d e.
           let h = here (c .before .before .before) t w d e in
-          sym (lead-same (w .shape) (l .i) (l .most) d (l .j) _ (h .0) (h .1) (c .if1 .left)) ∙ l .inv .1 t w d e,
+          sym (lead-same (w .shape) (l .i) (l .most) d (l .j) _ (h .0) (h .1) (omega (arith, c .if1 .left))) ∙ l .inv .1 t w d e,
     )
 
 returns : tie.Need-returns Inv-loop μ-loop

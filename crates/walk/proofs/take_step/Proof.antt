@@ -23,7 +23,7 @@ returns : tie.Need-returns
 returns c = λ t w kinds d e many placed q. turned-spent t w kinds _ d _ (c .if1 .taken)
 
 returns-2 : tie.Need-returns-2
-returns-2 c = λ t w kinds d e many placed q. turned-over t w kinds _ d _ (c .before .if1 .left) (c .if2 .taken)
+returns-2 c = λ t w kinds d e many placed q. turned-over t w kinds _ d _ (c .before .if1 .left) (omega arith)
 
 is-dropped-requires : tie.Need-is-dropped-requires
 is-dropped-requires c κs = tt
@@ -43,7 +43,7 @@ test c t w kinds d q = dropped-is t w kinds d _ q ∙ sym (c .is-dropped .ensure
 returns-3 : tie.Need-returns-3
 returns-3 c = λ t w kinds d e many placed q.
     let x = c .before .before in
-    rw (c .turn-of .ensures) (turned-drop t w kinds _ d _ (x .before .before .if1 .left) (x .before .if2 .left) (test x t w kinds d q ∙ c .before .if3 .taken))
+    rw (c .turn-of .ensures) (turned-drop t w kinds _ d _ (x .before .before .if1 .left) (omega (arith, x .before .if2 .left)) (test x t w kinds d q ∙ c .before .if3 .taken))
 
 -- the members stand for a candidate, and the level read is its topmost's
 for : (s : tie.Start) (t : Table) (w : Tree) (d : List Thing) → take (s .args .m) (s .args .t3) ≡ membersOf t w d → StandFor t w (s .args .m) (s .args .t3) d
@@ -90,7 +90,7 @@ returns-4 c = λ t w kinds d e many placed q.
     let zero = top p t w d e ∙ k .if4 .taken in
     let better = c .before .improve .ensures ∙ ap₂ (λ (g : List ℕ) (n : ℕ). improved g n (s .args .s .best)) (c .before .before .places-of .ensures ∙ ap padded (numbers-are (for s t w d e))) (q ∙ whole-spread t w kinds d many placed zero) in
     rw (c .turn-of2 .ensures)
-    (turned-group t w kinds _ d _ (x .before .before .if1 .left) (x .before .if2 .left) (test x t w kinds d q ∙ p .before .if3 .left) (group-of (w .shape) d zero) better)
+    (turned-group t w kinds _ d _ (x .before .before .if1 .left) (omega (arith, x .before .if2 .left)) (test x t w kinds d q ∙ p .before .if3 .left) (group-of (w .shape) d zero) better)
 
 add-turn-of-3 : tie.Need-add-turn-of-3
 add-turn-of-3 c = omega arith
@@ -104,7 +104,7 @@ returns-5 c = λ t w kinds d e many placed q.
     let p = k .before .before .before in
     let x = p .before .before in
     rw (c .turn-of3 .ensures)
-    (turned-open t w kinds _ d _ (x .before .before .if1 .left) (x .before .if2 .left) (test x t w kinds d q ∙ p .before .if3 .left)
+    (turned-open t w kinds _ d _ (x .before .before .if1 .left) (omega (arith, x .before .if2 .left)) (test x t w kinds d q ∙ p .before .if3 .left)
     (no-group (w .shape) d (λ z. k .if4 .left (sym (top p t w d e) ∙ z))) (p .find-topmost .ensures .1 t w d e))
 
 pub take-step-spec : {M : Type 1} → statement M

@@ -1,0 +1,467 @@
+//! Which cases a run tries, in which order and how many.
+
+use crate::answer::answer;
+use crate::brute;
+use crate::build::tree_of;
+use crate::cases::sheets::{self, harbour};
+use crate::cases::tables::{self, Setting};
+use crate::cases::trees;
+use crate::compare::{Program, Report};
+use crate::random::Random;
+use crate::sheet::{Sheet, parse};
+use crate::table::Table;
+use crate::tree::{Tree, check};
+use crate::trials::{BAD, Case};
+use crate::walk::{Ending, search};
+
+/// No case needs more steps than this.
+const MOST_STEPS: u32 = 30_000;
+
+/// Tables with more groups are not tried by brute force.
+const MOST_GROUPS: u64 = 20_000;
+
+/// A batch for `trials` ends when it is that long.
+const BATCH_BYTES: usize = 4_000_000;
+
+/// A table, a tree that passes and a want, with how the search ends within `MOST_STEPS`.
+struct Query {
+    table: Table,
+    tree: Tree,
+    want: u64,
+    ending: Option<Ending>,
+}
+
+impl Query {
+    /// Also holds the walk against brute force where that is small enough.
+    fn new(table: Table, tree: Tree, want: u64, report: &mut Report) -> Query {
+        let ending = search(&table, &tree, want, MOST_STEPS).ok();
+        let query = Query { table, tree, want, ending };
+        query.hold_against_brute_force(report);
+        query
+    }
+
+    fn hold_against_brute_force(&self, report: &mut Report) {
+        let case = || Case::Search(self.table.clone(), self.tree.clone(), self.want, MOST_STEPS);
+        let sound = check(&self.table, &self.tree).is_ok();
+        report.fact("within: the tree passes", &case().bytes(), sound);
+        if brute::groups(&self.table, self.want) > MOST_GROUPS {
+            return;
+        }
+        let group = match &self.ending {
+            Some(Ending::Found { group, .. }) => Some(group.clone()),
+            Some(Ending::None) => None,
+            _ => return,
+        };
+        let agreed = group == brute::closest(&self.table, self.want);
+        report.fact("within: walk and brute force agree", &case().bytes(), agreed);
+    }
+
+    fn allowances(&self, random: &mut Random) -> Vec<u32> {
+        let needed = match &self.ending {
+            Some(Ending::Found { steps, .. }) => *steps as u32,
+            Some(Ending::Spent { .. }) => return vec![0, 1, random.below(MOST_STEPS as usize) as u32],
+            _ => return vec![0, 1, u32::MAX],
+        };
+        let between = random.below(needed as usize) as u32;
+        let mut all = vec![0, 1, between, needed - 1, needed, needed + 1];
+        if random.once_in(4) {
+            all.push(u32::MAX);
+        }
+        all.sort_unstable();
+        all.dedup();
+        all
+    }
+}
+
+/// The program: one sheet, one process.
+pub struct ProgramPlan<'a> {
+    program: &'a Program,
+    report: &'a mut Report,
+    tried: u64,
+}
+
+impl<'a> ProgramPlan<'a> {
+    pub fn new(program: &'a Program, report: &'a mut Report) -> ProgramPlan<'a> {
+        ProgramPlan { program, report, tried: 0 }
+    }
+
+    pub fn run(&mut self, seed: u64, cases: u64) {
+        self.lists(&mut Random::new(seed ^ 0x10));
+        self.tried = 0;
+        let mut random = Random::new(seed);
+        for round in 0_u64.. {
+            match round % 3 {
+                _ if self.tried >= cases => return,
+                0 => self.small_table(&mut random),
+                1 => self.damaged_sheets(&mut random),
+                _ => self.wider_table(&mut random),
+            }
+        }
+    }
+
+    fn try_sheet(&mut self, kind: &'static str, input: &[u8]) {
+        let printed = self.program.run(input);
+        let mut actual = printed.bytes;
+        if !printed.ended_well {
+            actual.extend(b"(and did not end well)");
+        }
+        self.report.judge(kind, input, answer(input).as_bytes(), &actual);
+        self.tried += 1;
+    }
+
+    fn lists(&mut self, random: &mut Random) {
+        for (want, budget) in [(3, 7), (3, 6), (1, 3), (32, 0), (1, 0), (0, 7), (0x1ff, 7), (0xff, 7)] {
+            self.try_sheet("program: soundings", &Sheet { want, budget, ..harbour() }.text());
+        }
+        for input in sheets::whole_sheets() {
+            self.try_sheet("program: whole sheets", &input);
+        }
+        for length in [65_535, 65_536, 65_537] {
+            self.try_sheet("program: sheets near 65,536 bytes", &sheets::sized(random, length));
+        }
+        for input in sheets::line_faults() {
+            self.try_sheet("program: one fault in a line", &input);
+        }
+        for input in sheets::byte_faults(random, &harbour().text()) {
+            self.try_sheet("program: one fault in a byte", &input);
+        }
+    }
+
+    fn small_table(&mut self, random: &mut Random) {
+        let setting = tables::small(random);
+        let want = setting.want(random);
+        let tree = tree_of(&setting.table);
+        let query = Query::new(setting.table, tree, want, self.report);
+        for budget in query.allowances(random) {
+            let sheet = Sheet { table: query.table.clone(), want, budget };
+            let text = sheet.text();
+            self.report.fact("within: a sheet leads there and back", &text, parse(&text) == Ok(sheet));
+            self.try_sheet("program: small tables", &text);
+        }
+    }
+
+    fn wider_table(&mut self, random: &mut Random) {
+        let places = 40 + random.below(900);
+        let setting = tables::wider(random, places);
+        let sheet = Sheet { want: setting.modest_want(random), budget: MOST_STEPS, table: setting.table };
+        self.try_sheet("program: wider tables", &sheet.text());
+    }
+
+    fn damaged_sheets(&mut self, random: &mut Random) {
+        let setting = tables::small(random);
+        let sheet = Sheet { want: setting.want(random), budget: MOST_STEPS, table: setting.table };
+        for _ in 0..6 {
+            let mut text = sheet.text();
+            sheets::damage(random, &mut text);
+            self.try_sheet("program: damaged sheets", &text);
+        }
+    }
+}
+
+/// The library calls, many cases in one process.
+pub struct TrialsPlan<'a> {
+    program: &'a Program,
+    report: &'a mut Report,
+    /// How many cases go into one process at most.
+    batch: usize,
+    waiting: Vec<(&'static str, Case)>,
+    waiting_bytes: usize,
+    tried: u64,
+}
+
+impl<'a> TrialsPlan<'a> {
+    pub fn new(program: &'a Program, report: &'a mut Report, batch: usize) -> TrialsPlan<'a> {
+        TrialsPlan { program, report, batch, waiting: Vec::new(), waiting_bytes: 0, tried: 0 }
+    }
+
+    pub fn run(&mut self, seed: u64, cases: u64) {
+        self.lists(&mut Random::new(seed ^ 0x20));
+        self.tried = 0;
+        let mut random = Random::new(seed ^ 0x30);
+        for round in 0_u64.. {
+            match round % 8 {
+                _ if self.tried >= cases => break,
+                0 => self.numbers(&mut random),
+                1 => self.searches(&mut random, "trials: search, builder's tree", |_, table| tree_of(table)),
+                2 => self.searches(&mut random, "trials: search, foreign tree", trees::foreign),
+                3 => self.changed_trees(&mut random),
+                4 => self.builds(&mut random),
+                5 => self.writes(&mut random),
+                6 => self.reads(&mut random),
+                _ => self.faulty_tables(&mut random),
+            }
+        }
+        self.flush();
+        self.bad_cases(&mut random);
+    }
+
+    fn add(&mut self, kind: &'static str, case: Case) {
+        self.waiting_bytes += 8 * case.words().len();
+        self.waiting.push((kind, case));
+        self.tried += 1;
+        if self.waiting.len() >= self.batch || self.waiting_bytes >= BATCH_BYTES {
+            self.flush();
+        }
+    }
+
+    fn flush(&mut self) {
+        let waiting = std::mem::take(&mut self.waiting);
+        self.waiting_bytes = 0;
+        let input: Vec<u8> = waiting.iter().flat_map(|(_, case)| case.bytes()).collect();
+        let printed = self.program.run(&input);
+        let mut lines = printed.bytes.split_inclusive(|&byte| byte == b'\n');
+        for (kind, case) in &waiting {
+            let expected = case.line() + "\n";
+            let actual = lines.next().unwrap_or(b"(no line)");
+            self.report.judge(kind, &case.bytes(), expected.as_bytes(), actual);
+        }
+        let ended = printed.ended_well && lines.next().is_none();
+        self.report.fact("trials: ends with its input", &input, ended);
+    }
+
+    fn lists(&mut self, random: &mut Random) {
+        self.soundings();
+        self.edge_numbers();
+        for input in sheets::whole_sheets() {
+            self.add("trials: read, whole sheets", Case::Read(input, blank_table(4)));
+        }
+        for input in sheets::line_faults() {
+            self.add("trials: read, one fault in a line", Case::Read(input, blank_table(4)));
+        }
+        for input in sheets::byte_faults(random, &harbour().text()) {
+            self.add("trials: read, one fault in a byte", Case::Read(input, blank_table(5)));
+        }
+        self.greatest_trees(random);
+        self.greatest_tables(random);
+    }
+
+    fn soundings(&mut self) {
+        let kind = "trials: soundings";
+        let Sheet { table, .. } = harbour();
+        let leaf = tree_of(&table);
+        for (want, allowance) in [(3, 7), (3, 6), (1, 3), (32, 0), (1, 0), (0, 7), (0x1ff, 7), (0xff, 7)] {
+            self.add(kind, Case::Search(table.clone(), leaf.clone(), want, allowance));
+        }
+        let both = Table { x: vec![5], y: vec![5], kit: vec![3] };
+        self.add(kind, Case::Search(both.clone(), tree_of(&both), 3, u32::MAX));
+        self.add(kind, Case::Search(Table::default(), Tree::default(), 1, 0));
+        for x in [1_000_000, 1_000_001] {
+            self.add(kind, Case::Build(Table { x: vec![x], ..both.clone() }, leaf.columns.clone()));
+        }
+        let mut loose = leaf.clone();
+        loose.columns.x_hi[0] = 11;
+        self.add(kind, Case::Check(table.clone(), loose));
+        let mut twice = leaf;
+        twice.columns.entries[2] = 1;
+        self.add(kind, Case::Check(table, twice));
+    }
+
+    fn edge_numbers(&mut self) {
+        let ends = [i32::MIN, -1_000_001, -1_000_000, 0, 1_000_000, 1_000_001, i32::MAX];
+        for a in ends {
+            for b in ends {
+                self.add("trials: squared", Case::Squared([a, b, 1, -1]));
+                self.add("trials: squared", Case::Squared([-1, 1, a, b]));
+                self.add("trials: squared", Case::Squared([a, b, b, a]));
+            }
+        }
+        for root in [1, 2, 3, 2_828_427, 65_535, 65_536, 94_906_265, 94_906_266, 4_294_967_295_u64] {
+            for n in [root * root - 1, root * root, root * root + 1] {
+                self.add("trials: root", Case::Root(n));
+            }
+        }
+        for n in [0, 1 << 52, (1 << 53) + 1, u64::MAX - 1, u64::MAX, 8_000_000_000_000] {
+            self.add("trials: root", Case::Root(n));
+        }
+    }
+
+    /// Trees of 2,048 and 2,049 nodes, and the builder's for 4,096 places.
+    fn greatest_trees(&mut self, random: &mut Random) {
+        let setting = tables::wider(random, 2000);
+        for below_root in [9, 10] {
+            let tree = trees::foreign_with(random, &setting.table, &[1900, 138, below_root, 1]);
+            self.add("trials: greatest trees", Case::Check(setting.table.clone(), tree));
+        }
+        let full = tables::full(random, 0);
+        let want = full.modest_want(random);
+        for tree in [tree_of(&full.table), trees::foreign(random, &full.table)] {
+            let blank = trees::blank(random, &tree.columns);
+            self.add("trials: greatest trees", Case::Check(full.table.clone(), tree.clone()));
+            self.add("trials: greatest trees", Case::Build(full.table.clone(), blank));
+            self.add("trials: greatest trees", Case::Search(full.table.clone(), tree, want, MOST_STEPS));
+        }
+    }
+
+    /// Tables of 4,096 and 4,097 places, written and read.
+    fn greatest_tables(&mut self, random: &mut Random) {
+        let kind = "trials: greatest tables";
+        for more in [0, 1] {
+            let table = tables::full(random, more).table;
+            let text = Sheet { table: table.clone(), want: 1, budget: 2 }.text();
+            for spare in [0, 3] {
+                let out = vec![b'.'; text.len() + spare];
+                self.add(kind, Case::Write(table.clone(), 1, 2, out));
+            }
+            self.add(kind, Case::Write(table.clone(), 1, 2, vec![b'.'; text.len() - 1]));
+            self.add(kind, Case::Read(text.clone(), blank_table(4096)));
+            self.add(kind, Case::Read(text, blank_table(4095)));
+            self.add(kind, Case::Build(table.clone(), tree_of(&tables::full(random, 0).table).columns));
+            self.add(kind, Case::Check(table, Tree::default()));
+        }
+    }
+
+    fn numbers(&mut self, random: &mut Random) {
+        for _ in 0..8 {
+            let mut ends = [0; 4];
+            ends.fill_with(|| random.between(-1_000_020, 1_000_020) as i32);
+            self.add("trials: squared", Case::Squared(ends));
+            let n = random.word() >> random.below(64);
+            self.add("trials: root", Case::Root(n));
+        }
+    }
+
+    fn searches(
+        &mut self,
+        random: &mut Random,
+        kind: &'static str,
+        tree_for: impl Fn(&mut Random, &Table) -> Tree,
+    ) {
+        let setting = if random.once_in(12) { tables::wider(random, 150) } else { tables::small(random) };
+        let want = setting.want(random);
+        let mut tree = tree_for(random, &setting.table);
+        if random.once_in(3) {
+            trees::lengthen(random, &mut tree.columns);
+        }
+        let query = Query::new(setting.table, tree, want, self.report);
+        self.add("trials: check, good tree", Case::Check(query.table.clone(), query.tree.clone()));
+        for allowance in query.allowances(random) {
+            self.add(kind, Case::Search(query.table.clone(), query.tree.clone(), want, allowance));
+        }
+    }
+
+    fn changed_trees(&mut self, random: &mut Random) {
+        let setting = tables::small(random);
+        let good = match random.below(2) {
+            0 => tree_of(&setting.table),
+            _ => trees::foreign(random, &setting.table),
+        };
+        for changes in [1, 1, 1, 1, 1, 2, 2, 3] {
+            let mut tree = good.clone();
+            if random.once_in(4) {
+                trees::lengthen(random, &mut tree.columns);
+            }
+            (0..changes).for_each(|_| trees::change(random, &mut tree));
+            self.add("trials: check, changed tree", Case::Check(setting.table.clone(), tree.clone()));
+            if random.once_in(3) {
+                self.search_changed(random, &setting, tree);
+            }
+        }
+    }
+
+    fn search_changed(&mut self, random: &mut Random, setting: &Setting, tree: Tree) {
+        let want = setting.want(random);
+        let allowance = random.below(1000) as u32;
+        self.add("trials: search, changed tree", Case::Search(setting.table.clone(), tree, want, allowance));
+    }
+
+    fn builds(&mut self, random: &mut Random) {
+        let places = random.pick(&[255, 256, 257, 300, 513]);
+        let setting = if random.once_in(6) { tables::wider(random, places) } else { tables::small(random) };
+        let exact = trees::blank(random, &tree_of(&setting.table).columns);
+        let mut longer = exact.clone();
+        trees::lengthen(random, &mut longer);
+        let mut shorter = longer.clone();
+        trees::shorten(random, &mut shorter);
+        let mut short = exact.clone();
+        trees::shorten(random, &mut short);
+        for lent in [exact, longer, shorter, short] {
+            self.add("trials: build", Case::Build(setting.table.clone(), lent));
+        }
+    }
+
+    fn writes(&mut self, random: &mut Random) {
+        let table = tables::small(random).table;
+        let want = random.word() >> random.below(64);
+        let budget = (random.word() >> 32 >> random.below(32)) as u32;
+        let exact = Sheet { table: table.clone(), want, budget }.text().len();
+        for room in [exact, exact + random.below(50), exact - 1, random.below(exact), 0] {
+            let lent = (0..room).map(|_| random.word() as u8).collect();
+            self.add("trials: write", Case::Write(table.clone(), want, budget, lent));
+        }
+    }
+
+    fn reads(&mut self, random: &mut Random) {
+        let setting = tables::small(random);
+        let places = setting.table.places();
+        let sheet = Sheet { want: random.word(), budget: random.word() as u32, table: setting.table };
+        for room in [places, places + random.below(5), places.saturating_sub(1), 0] {
+            self.add("trials: read", Case::Read(sheet.text(), uneven_table(random, room)));
+        }
+        for _ in 0..6 {
+            let mut text = sheet.text();
+            sheets::damage(random, &mut text);
+            let room = random.pick(&[places, places + 2, 0]);
+            self.add("trials: read, damaged sheet", Case::Read(text, uneven_table(random, room)));
+        }
+    }
+
+    fn faulty_tables(&mut self, random: &mut Random) {
+        let kind = "trials: faulty tables";
+        let setting = tables::small(random);
+        let tree = tree_of(&setting.table);
+        let want = setting.want(random);
+        let mut table = setting.table;
+        tables::spoil(random, &mut table);
+        let mut room = tree.columns.clone();
+        if random.once_in(2) {
+            trees::shorten(random, &mut room);
+        }
+        self.add(kind, Case::Check(table.clone(), tree.clone()));
+        self.add(kind, Case::Build(table.clone(), room));
+        self.add(kind, Case::Write(table.clone(), want, 5, vec![1; random.below(100)]));
+        self.add(kind, Case::Search(table, tree, want, 500));
+    }
+
+    /// Cases that are cut off or unknown, each in its own process.
+    fn bad_cases(&mut self, random: &mut Random) {
+        let good = Case::Root(26);
+        for first in [0, 8, 1 << 32 | 1, 1 << 63 | 2, u64::MAX] {
+            self.bad_case(&good, &u64::to_le_bytes(first));
+        }
+        for length in [1, 1 << 32, 1 << 61, u64::MAX] {
+            self.bad_case(&good, &[u64::to_le_bytes(3), u64::to_le_bytes(length)].concat());
+        }
+        for _ in 0..12 {
+            let setting = tables::small(random);
+            let tree = trees::foreign(random, &setting.table);
+            let whole = Case::Search(setting.table, tree, 1, 5).bytes();
+            self.bad_case(&good, &whole[..1 + random.below(whole.len() - 1)]);
+        }
+    }
+
+    fn bad_case(&mut self, good: &Case, bad: &[u8]) {
+        let input = [&good.bytes()[..], bad].concat();
+        let expected = format!("{}\n{BAD}\n", good.line());
+        let actual = self.program.run(&input).bytes;
+        self.report.judge("trials: bad case", &input, expected.as_bytes(), &actual);
+    }
+}
+
+fn blank_table(places: usize) -> Table {
+    Table { x: vec![-7; places], y: vec![8; places], kit: vec![9; places] }
+}
+
+/// Columns of at least `room`, of which one may be shorter or longer.
+fn uneven_table(random: &mut Random, room: usize) -> Table {
+    let mut table = blank_table(room);
+    match random.below(8) {
+        0 => table.x.push(1),
+        1 => table.y.push(1),
+        2 => table.kit.push(1),
+        3 => table.x.truncate(room / 2),
+        4 => table.y.truncate(room / 2),
+        5 => table.kit.truncate(room / 2),
+        _ => (),
+    }
+    table
+}

@@ -90,10 +90,10 @@ impl<'a> ProgramPlan<'a> {
         self.tried = 0;
         let mut random = Random::new(seed);
         for round in 0_u64.. {
-            match round % 3 {
+            match round % 5 {
                 _ if self.tried >= cases => return,
-                0 => self.small_table(&mut random),
-                1 => self.damaged_sheets(&mut random),
+                0..3 => self.small_table(&mut random),
+                3 => self.damaged_sheets(&mut random),
                 _ => self.wider_table(&mut random),
             }
         }
@@ -179,16 +179,18 @@ impl<'a> TrialsPlan<'a> {
         self.tried = 0;
         let mut random = Random::new(seed ^ 0x30);
         for round in 0_u64.. {
-            match round % 8 {
+            match round % 10 {
                 _ if self.tried >= cases => break,
                 0 => self.numbers(&mut random),
-                1 => self.searches(&mut random, "trials: search, builder's tree", |_, table| tree_of(table)),
-                2 => self.searches(&mut random, "trials: search, foreign tree", trees::foreign),
-                3 => self.changed_trees(&mut random),
-                4 => self.builds(&mut random),
-                5 => self.writes(&mut random),
-                6 => self.reads(&mut random),
-                _ => self.faulty_tables(&mut random),
+                1 => self.changed_trees(&mut random),
+                2 => self.builds(&mut random),
+                3 => self.writes(&mut random),
+                4 => self.reads(&mut random),
+                5 => self.faulty_tables(&mut random),
+                6 | 7 => {
+                    self.searches(&mut random, "trials: search, builder's tree", |_, table| tree_of(table))
+                }
+                _ => self.searches(&mut random, "trials: search, foreign tree", trees::foreign),
             }
         }
         self.flush();

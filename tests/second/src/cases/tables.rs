@@ -1,7 +1,7 @@
 //! Tables with ties, shared positions, empty kits and extreme coordinates, and wants for them.
 
 use crate::random::Random;
-use crate::table::{MOST_PLACES, Table};
+use crate::table::{MOST_PLACES, Table, holds};
 
 /// A table and the kinds that its places may hold.
 pub struct Setting {
@@ -30,8 +30,8 @@ pub fn small(random: &mut Random) -> Setting {
         Ground::Wide,
         Ground::Row,
     ]);
-    let most = random.pick(&[1, 3, 8, 16, 17, 20, 40]);
-    let places = random.below(most + 1);
+    let most = random.pick(&[1, 3, 8, 16, 17, 20, 40, 60]);
+    let places = random.between(most / 3, most) as usize;
     let palette = 1 + random.below(10);
     let rarity = 1 + random.below(5);
     setting(random, ground, places, palette, rarity)
@@ -94,15 +94,20 @@ fn kit(random: &mut Random, kinds: &[u32], rarity: usize) -> u64 {
 impl Setting {
     /// Mostly wants that can be met; also 0, more than 8 kinds, and kinds that no place holds.
     pub fn want(&self, random: &mut Random) -> u64 {
-        let size = random.pick(&[0, 1, 1, 2, 2, 2, 3, 3, 4, 5, 6, 8, 8, 9, 64]);
+        let held = self.table.kit.iter().fold(0, |all, kit| all | kit);
         let mut kinds = self.kinds.clone();
-        random.shuffle(&mut kinds);
-        if size >= 8 || random.once_in(12) {
-            let others = (0..64).filter(|kind| !self.kinds.contains(kind));
-            kinds.extend(others.collect::<Vec<u32>>());
+        if !random.once_in(6) {
+            kinds.retain(|&kind| holds(held, kind));
         }
-        if random.once_in(12) {
-            kinds.reverse();
+        random.shuffle(&mut kinds);
+        let size = match random.below(10) {
+            0 => random.pick(&[0, 9, 10, 64]),
+            _ => random.pick(&[1, 2, 2, 3, 3, 4, 5, 6, 7, 8]),
+        };
+        if size > 8 || random.once_in(10) {
+            let others: Vec<u32> = (0..64).filter(|kind| !kinds.contains(kind)).collect();
+            kinds.extend(others);
+            random.shuffle(&mut kinds);
         }
         kinds.iter().take(size).fold(0, |want, kind| want | 1 << kind)
     }

@@ -5,11 +5,11 @@ use crate::sheet::Sheet;
 use crate::table::Table;
 
 /// The river runs from its mouth in the west to the weir in the east.
-const MOUTH: i64 = -900_000;
-const WEIR: i64 = 900_000;
+const MOUTH: i64 = -240_000;
+const WEIR: i64 = 240_000;
 const MOORINGS: usize = 7;
 
-/// Kinds as examples/README.md names them, and of how many hundred the share holding each.
+/// Kinds as examples/README.md names them, each with how many in a hundred hold it.
 const QUAY_KIT: [(u32, usize); 6] = [(0, 12), (1, 6), (6, 25), (8, 10), (10, 8), (14, 5)];
 const BARGE_KIT: [(u32, usize); 6] = [(1, 14), (4, 12), (7, 10), (9, 14), (11, 8), (13, 5)];
 const VESSEL_KIT: [(u32, usize); 7] = [(0, 20), (2, 45), (3, 12), (5, 10), (8, 8), (12, 15), (15, 4)];
@@ -29,13 +29,12 @@ pub fn sheet(seed: u64, places: usize, want: u64, budget: u32) -> Sheet {
     Sheet { table, want, budget }
 }
 
-/// The middle of the river: two bends, in whole numbers.
+/// The middle of the river, with two bends.
 fn middle(x: i64) -> i64 {
-    let bend = x / 1000;
-    bend * (bend - 600) * (bend + 700) / 1500
+    x * (x - 160_000) * (x + 190_000) / 60_000_000_000
 }
 
-/// From 120 m at the weir to 4 km at the mouth, as half of it.
+/// The river is 120 m wide at the weir and some 4 km at the mouth.
 fn half_width(x: i64) -> i64 {
     600 + (WEIR - x) * 20_000 / (WEIR - MOUTH)
 }

@@ -24,11 +24,11 @@ use std::str::FromStr;
 use std::time::Duration;
 
 use compare::{Program, Report};
-use plan::{ProgramPlan, TrialsPlan};
+use plan::{LibraryPlan, ProgramPlan};
 
 const USAGE: &str = "\
 second [--longhorbi PATH] [--trials PATH] [--runner PATH] [--seed N] [--cases M]
-       [--keep DIRECTORY] [--batch N] [--limit SECONDS]
+       [--examples DIRECTORY] [--keep DIRECTORY] [--batch N] [--limit SECONDS]
     compares the programs with M random cases each, besides the lists that every run tries
 second answer < sheet
     prints what the program must print for the sheet
@@ -78,6 +78,7 @@ struct Options {
     longhorbi: Option<String>,
     trials: Option<String>,
     runner: Option<String>,
+    examples: Option<PathBuf>,
     keep: Option<PathBuf>,
     seed: u64,
     cases: u64,
@@ -90,6 +91,7 @@ fn options(words: &[String]) -> Result<Options, String> {
         longhorbi: None,
         trials: None,
         runner: None,
+        examples: None,
         keep: None,
         seed: 1,
         cases: 1000,
@@ -104,6 +106,7 @@ fn options(words: &[String]) -> Result<Options, String> {
             "--longhorbi" => options.longhorbi = Some(value.clone()),
             "--trials" => options.trials = Some(value.clone()),
             "--runner" => options.runner = Some(value.clone()),
+            "--examples" => options.examples = Some(value.into()),
             "--keep" => options.keep = Some(value.into()),
             "--seed" => options.seed = number(value)?,
             "--cases" => options.cases = number(value)?,
@@ -127,10 +130,15 @@ fn compare(words: &[String]) -> Result<ExitCode, String> {
         limit: Duration::from_secs(options.limit),
     };
     if let Some(path) = &options.longhorbi {
-        ProgramPlan::new(&program(path), &mut report).run(options.seed, options.cases);
+        let program = program(path);
+        let mut plan = ProgramPlan::new(&program, &mut report);
+        if let Some(directory) = &options.examples {
+            plan.examples(directory).map_err(|error| format!("{}: {error}", directory.display()))?;
+        }
+        plan.run(options.seed, options.cases);
     }
     if let Some(path) = &options.trials {
-        TrialsPlan::new(&program(path), &mut report, options.batch).run(options.seed, options.cases);
+        LibraryPlan::new(&program(path), &mut report, options.batch).run(options.seed, options.cases);
     }
     Ok(if report.close() { ExitCode::SUCCESS } else { ExitCode::FAILURE })
 }

@@ -64,6 +64,10 @@ const WORDS: [&str; 17] = [
 
 const ENDS: [&str; 9] = ["", "1", "2", "01", "-1", "sheet", "sheet ", "Sheet", "answer"];
 
+/// Wants and allowances of the soundings on harbour H.
+pub const SOUNDINGS: [(u64, u32); 8] =
+    [(3, 7), (3, 6), (1, 3), (32, 0), (1, 0), (0, 7), (0x1ff, 7), (0xff, 7)];
+
 /// The sheet of harbour H.
 pub fn harbour() -> Sheet {
     let table = Table { x: vec![0, 3, 10, 10], y: vec![0, 4, 0, 5], kit: vec![1, 2, 1, 2] };

@@ -5,6 +5,9 @@ use crate::random::Random;
 use crate::table::Table;
 use crate::tree::{Columns, MOST_ENTRIES, MOST_LEVELS, Tree};
 
+/// Columns of a tree, the entry list last.
+pub const COLUMNS: usize = 9;
+
 /// Keeps six levels below the greatest node count.
 const MOST_RUNS: usize = 300;
 
@@ -13,8 +16,43 @@ pub fn foreign(random: &mut Random, table: &Table) -> Tree {
     if table.places() == 0 {
         return Tree::default();
     }
-    let counts = run_counts(random, table.places());
+    let least = (1..=MOST_LEVELS).find(|&levels| reach(levels) >= table.places());
+    let levels = random.between(least.expect("six levels suffice") as i64, MOST_LEVELS as i64);
+    let counts = run_counts(random, table.places(), levels as usize);
     foreign_with(random, table, &counts)
+}
+
+/// Sound but for one thing: seven levels, a run of seventeen, or a root that is not node 0.
+pub fn odd(random: &mut Random, table: &Table) -> Tree {
+    if table.places() == 0 {
+        return Tree::default();
+    }
+    match random.below(3) {
+        0 => {
+            let counts = run_counts(random, table.places(), MOST_LEVELS + 1);
+            foreign_with(random, table, &counts)
+        }
+        1 => with_seventeen(table),
+        _ => without_first_root(random, table),
+    }
+}
+
+fn with_seventeen(table: &Table) -> Tree {
+    let leaves: Vec<Vec<usize>> =
+        places_in_order(table).chunks(MOST_ENTRIES + 1).map(<[usize]>::to_vec).collect();
+    let root = vec![(0..leaves.len()).collect()];
+    let numbers = vec![(1..=leaves.len()).collect(), vec![0]];
+    Tree::of(columns(table, &vec![leaves, root], &numbers))
+}
+
+fn without_first_root(random: &mut Random, table: &Table) -> Tree {
+    let leaves: Vec<Vec<usize>> =
+        places_in_order(table).chunks(MOST_ENTRIES / 2).map(<[usize]>::to_vec).collect();
+    let root = vec![(0..leaves.len()).collect()];
+    let mut free: Vec<usize> = (0..=leaves.len()).collect();
+    random.shuffle(&mut free);
+    let last = free.pop().into_iter().collect();
+    Tree::of(columns(table, &vec![leaves, root], &vec![free, last]))
 }
 
 /// The same with the number of nodes of each level given, leaves first.
@@ -35,9 +73,7 @@ pub fn foreign_with(random: &mut Random, table: &Table, counts: &[usize]) -> Tre
     Tree::of(columns(table, &levels, &numbers))
 }
 
-fn run_counts(random: &mut Random, places: usize) -> Vec<usize> {
-    let least = (1..=MOST_LEVELS).find(|&levels| reach(levels) >= places).expect("six levels suffice");
-    let levels = random.between(least as i64, MOST_LEVELS as i64) as usize;
+fn run_counts(random: &mut Random, places: usize, levels: usize) -> Vec<usize> {
     let mut below = places;
     let mut counts = Vec::new();
     for level in 1..=levels {
@@ -78,6 +114,39 @@ fn shuffled_numbers(random: &mut Random, counts: &[usize]) -> Numbers {
     counts.iter().map(|&count| rest.by_ref().take(count).collect()).collect()
 }
 
+/// Every tree that differs from this one by 1 in one field.
+pub fn neighbours(tree: &Tree) -> Vec<Tree> {
+    let mut trees = Vec::new();
+    for up in [true, false] {
+        let by = |count: u64| if up { count + 1 } else { count.wrapping_sub(1) };
+        trees.push(Tree { nodes: by(tree.nodes), ..tree.clone() });
+        trees.push(Tree { listed: by(tree.listed), ..tree.clone() });
+        for column in 0..COLUMNS {
+            let length = if column == COLUMNS - 1 { tree.listed } else { tree.nodes };
+            for index in 0..length as usize {
+                let mut other = tree.clone();
+                nudge(&mut other.columns, column, index, up);
+                trees.push(other);
+            }
+        }
+    }
+    trees
+}
+
+fn nudge(columns: &mut Columns, column: usize, index: usize, up: bool) {
+    match column {
+        0 => columns.level[index].nudge(up),
+        1 => columns.start[index].nudge(up),
+        2 => columns.count[index].nudge(up),
+        3 => columns.x_lo[index].nudge(up),
+        4 => columns.x_hi[index].nudge(up),
+        5 => columns.y_lo[index].nudge(up),
+        6 => columns.y_hi[index].nudge(up),
+        7 => columns.kits[index].nudge(up),
+        _ => columns.entries[index].nudge(up),
+    }
+}
+
 /// Changes one field of a tree: a value, a count, or the length of a column.
 pub fn change(random: &mut Random, tree: &mut Tree) {
     match random.below(14) {
@@ -104,41 +173,34 @@ fn change_column(random: &mut Random, columns: &mut Columns, column: usize) {
 }
 
 /// One of the values given, one that stands elsewhere in the column, or a neighbour.
-fn change_value<T>(random: &mut Random, column: &mut [T], given: &[T])
-where
-    T: Copy + From<u8> + Wrapping,
-{
+fn change_value<T: Copy + Nudge>(random: &mut Random, column: &mut [T], given: &[T]) {
     if column.is_empty() {
         return;
     }
     let index = random.below(column.len());
-    column[index] = match random.below(4) {
-        0 => random.pick(given),
-        1 => random.pick(column),
-        2 => column[index].plus(T::from(1)),
-        _ => column[index].minus(T::from(1)),
-    };
+    match random.below(4) {
+        0 => column[index] = random.pick(given),
+        1 => column[index] = random.pick(column),
+        _ => column[index].nudge(random.once_in(2)),
+    }
 }
 
-trait Wrapping {
-    fn plus(self, other: Self) -> Self;
-    fn minus(self, other: Self) -> Self;
+trait Nudge {
+    /// Adds or takes 1, round the end of the type.
+    fn nudge(&mut self, up: bool);
 }
 
-macro_rules! wrapping {
+macro_rules! nudge {
     ($($kind:ty),*) => {$(
-        impl Wrapping for $kind {
-            fn plus(self, other: $kind) -> $kind {
-                self.wrapping_add(other)
-            }
-            fn minus(self, other: $kind) -> $kind {
-                self.wrapping_sub(other)
+        impl Nudge for $kind {
+            fn nudge(&mut self, up: bool) {
+                *self = if up { self.wrapping_add(1) } else { self.wrapping_sub(1) };
             }
         }
     )*};
 }
 
-wrapping!(u8, u16, i32);
+nudge!(u8, u16, i32, u64);
 
 fn change_box(random: &mut Random, column: &mut [i32]) {
     change_value(random, column, &[0, 1_000_000, -1_000_000, i32::MAX, i32::MIN]);
@@ -170,8 +232,11 @@ fn other_count(random: &mut Random, count: u64) -> u64 {
 
 /// Takes the last value from one column, or all of them.
 pub fn shorten(random: &mut Random, columns: &mut Columns) {
-    let all = random.once_in(4);
-    match random.below(9) {
+    shorten_column(columns, random.below(COLUMNS), random.once_in(4));
+}
+
+pub fn shorten_column(columns: &mut Columns, column: usize, all: bool) {
+    match column {
         0 => cut(&mut columns.level, all),
         1 => cut(&mut columns.start, all),
         2 => cut(&mut columns.count, all),

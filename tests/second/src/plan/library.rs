@@ -1,165 +1,24 @@
-//! Which cases a run tries, in which order and how many.
+//! The library calls: many cases in one process of the program `trials`.
 
-use crate::answer::answer;
-use crate::brute;
+use super::query::{MOST_STEPS, Query};
 use crate::build::tree_of;
-use crate::cases::sheets::{self, harbour};
+use crate::cases::sheets::{self, SOUNDINGS, harbour};
 use crate::cases::tables::{self, Setting};
 use crate::cases::trees;
 use crate::compare::{Program, Report};
 use crate::random::Random;
-use crate::sheet::{Sheet, parse};
+use crate::sheet::Sheet;
 use crate::table::Table;
-use crate::tree::{Tree, check};
+use crate::tree::Tree;
 use crate::trials::{BAD, Case};
-use crate::walk::{Ending, search};
-
-/// No case needs more steps than this.
-const MOST_STEPS: u32 = 30_000;
-
-/// Tables with more groups are not tried by brute force.
-const MOST_GROUPS: u64 = 20_000;
 
 /// A batch for `trials` ends when it is that long.
 const BATCH_BYTES: usize = 4_000_000;
 
-/// A table, a tree that passes and a want, with how the search ends within `MOST_STEPS`.
-struct Query {
-    table: Table,
-    tree: Tree,
-    want: u64,
-    ending: Option<Ending>,
-}
+const BUILT: &str = "trials: search, builder's tree";
+const FOREIGN: &str = "trials: search, foreign tree";
 
-impl Query {
-    /// Also holds the walk against brute force where that is small enough.
-    fn new(table: Table, tree: Tree, want: u64, report: &mut Report) -> Query {
-        let ending = search(&table, &tree, want, MOST_STEPS).ok();
-        let query = Query { table, tree, want, ending };
-        query.hold_against_brute_force(report);
-        query
-    }
-
-    fn hold_against_brute_force(&self, report: &mut Report) {
-        let case = || Case::Search(self.table.clone(), self.tree.clone(), self.want, MOST_STEPS);
-        let sound = check(&self.table, &self.tree).is_ok();
-        report.fact("within: the tree passes", &case().bytes(), sound);
-        if brute::groups(&self.table, self.want) > MOST_GROUPS {
-            return;
-        }
-        let group = match &self.ending {
-            Some(Ending::Found { group, .. }) => Some(group.clone()),
-            Some(Ending::None) => None,
-            _ => return,
-        };
-        let agreed = group == brute::closest(&self.table, self.want);
-        report.fact("within: walk and brute force agree", &case().bytes(), agreed);
-    }
-
-    fn allowances(&self, random: &mut Random) -> Vec<u32> {
-        let needed = match &self.ending {
-            Some(Ending::Found { steps, .. }) => *steps as u32,
-            Some(Ending::Spent { .. }) => return vec![0, 1, random.below(MOST_STEPS as usize) as u32],
-            _ => return vec![0, 1, u32::MAX],
-        };
-        let between = random.below(needed as usize) as u32;
-        let mut all = vec![0, 1, between, needed - 1, needed, needed + 1];
-        if random.once_in(4) {
-            all.push(u32::MAX);
-        }
-        all.sort_unstable();
-        all.dedup();
-        all
-    }
-}
-
-/// The program: one sheet, one process.
-pub struct ProgramPlan<'a> {
-    program: &'a Program,
-    report: &'a mut Report,
-    tried: u64,
-}
-
-impl<'a> ProgramPlan<'a> {
-    pub fn new(program: &'a Program, report: &'a mut Report) -> ProgramPlan<'a> {
-        ProgramPlan { program, report, tried: 0 }
-    }
-
-    pub fn run(&mut self, seed: u64, cases: u64) {
-        self.lists(&mut Random::new(seed ^ 0x10));
-        self.tried = 0;
-        let mut random = Random::new(seed);
-        for round in 0_u64.. {
-            match round % 5 {
-                _ if self.tried >= cases => return,
-                0..3 => self.small_table(&mut random),
-                3 => self.damaged_sheets(&mut random),
-                _ => self.wider_table(&mut random),
-            }
-        }
-    }
-
-    fn try_sheet(&mut self, kind: &'static str, input: &[u8]) {
-        let printed = self.program.run(input);
-        let mut actual = printed.bytes;
-        if !printed.ended_well {
-            actual.extend(b"(and did not end well)");
-        }
-        self.report.judge(kind, input, answer(input).as_bytes(), &actual);
-        self.tried += 1;
-    }
-
-    fn lists(&mut self, random: &mut Random) {
-        for (want, budget) in [(3, 7), (3, 6), (1, 3), (32, 0), (1, 0), (0, 7), (0x1ff, 7), (0xff, 7)] {
-            self.try_sheet("program: soundings", &Sheet { want, budget, ..harbour() }.text());
-        }
-        for input in sheets::whole_sheets() {
-            self.try_sheet("program: whole sheets", &input);
-        }
-        for length in [65_535, 65_536, 65_537] {
-            self.try_sheet("program: sheets near 65,536 bytes", &sheets::sized(random, length));
-        }
-        for input in sheets::line_faults() {
-            self.try_sheet("program: one fault in a line", &input);
-        }
-        for input in sheets::byte_faults(random, &harbour().text()) {
-            self.try_sheet("program: one fault in a byte", &input);
-        }
-    }
-
-    fn small_table(&mut self, random: &mut Random) {
-        let setting = tables::small(random);
-        let want = setting.want(random);
-        let tree = tree_of(&setting.table);
-        let query = Query::new(setting.table, tree, want, self.report);
-        for budget in query.allowances(random) {
-            let sheet = Sheet { table: query.table.clone(), want, budget };
-            let text = sheet.text();
-            self.report.fact("within: a sheet leads there and back", &text, parse(&text) == Ok(sheet));
-            self.try_sheet("program: small tables", &text);
-        }
-    }
-
-    fn wider_table(&mut self, random: &mut Random) {
-        let places = 40 + random.below(900);
-        let setting = tables::wider(random, places);
-        let sheet = Sheet { want: setting.modest_want(random), budget: MOST_STEPS, table: setting.table };
-        self.try_sheet("program: wider tables", &sheet.text());
-    }
-
-    fn damaged_sheets(&mut self, random: &mut Random) {
-        let setting = tables::small(random);
-        let sheet = Sheet { want: setting.want(random), budget: MOST_STEPS, table: setting.table };
-        for _ in 0..6 {
-            let mut text = sheet.text();
-            sheets::damage(random, &mut text);
-            self.try_sheet("program: damaged sheets", &text);
-        }
-    }
-}
-
-/// The library calls, many cases in one process.
-pub struct TrialsPlan<'a> {
+pub struct LibraryPlan<'a> {
     program: &'a Program,
     report: &'a mut Report,
     /// How many cases go into one process at most.
@@ -169,9 +28,9 @@ pub struct TrialsPlan<'a> {
     tried: u64,
 }
 
-impl<'a> TrialsPlan<'a> {
-    pub fn new(program: &'a Program, report: &'a mut Report, batch: usize) -> TrialsPlan<'a> {
-        TrialsPlan { program, report, batch, waiting: Vec::new(), waiting_bytes: 0, tried: 0 }
+impl<'a> LibraryPlan<'a> {
+    pub fn new(program: &'a Program, report: &'a mut Report, batch: usize) -> LibraryPlan<'a> {
+        LibraryPlan { program, report, batch, waiting: Vec::new(), waiting_bytes: 0, tried: 0 }
     }
 
     pub fn run(&mut self, seed: u64, cases: u64) {
@@ -179,7 +38,7 @@ impl<'a> TrialsPlan<'a> {
         self.tried = 0;
         let mut random = Random::new(seed ^ 0x30);
         for round in 0_u64.. {
-            match round % 10 {
+            match round % 11 {
                 _ if self.tried >= cases => break,
                 0 => self.numbers(&mut random),
                 1 => self.changed_trees(&mut random),
@@ -187,10 +46,9 @@ impl<'a> TrialsPlan<'a> {
                 3 => self.writes(&mut random),
                 4 => self.reads(&mut random),
                 5 => self.faulty_tables(&mut random),
-                6 | 7 => {
-                    self.searches(&mut random, "trials: search, builder's tree", |_, table| tree_of(table))
-                }
-                _ => self.searches(&mut random, "trials: search, foreign tree", trees::foreign),
+                6 => self.odd_trees(&mut random),
+                7 | 8 => self.searches(&mut random, BUILT, |_, table| tree_of(table)),
+                _ => self.searches(&mut random, FOREIGN, trees::foreign),
             }
         }
         self.flush();
@@ -233,15 +91,40 @@ impl<'a> TrialsPlan<'a> {
         for input in sheets::byte_faults(random, &harbour().text()) {
             self.add("trials: read, one fault in a byte", Case::Read(input, blank_table(5)));
         }
+        self.short_columns(random);
+        self.neighbour_trees(random);
         self.greatest_trees(random);
         self.greatest_tables(random);
+    }
+
+    /// Each column one too short, and empty, for the builder and for the check.
+    fn short_columns(&mut self, random: &mut Random) {
+        let table = tables::wider(random, 40).table;
+        let tree = tree_of(&table);
+        for column in 0..trees::COLUMNS {
+            for all in [false, true] {
+                let mut short = tree.clone();
+                trees::shorten_column(&mut short.columns, column, all);
+                self.add("trials: short columns", Case::Build(table.clone(), short.columns.clone()));
+                self.add("trials: short columns", Case::Check(table.clone(), short));
+            }
+        }
+    }
+
+    /// Each field of a tree of three levels, one up and one down.
+    fn neighbour_trees(&mut self, random: &mut Random) {
+        let table = tables::wider(random, 20).table;
+        let tree = trees::foreign_with(random, &table, &[5, 2, 1]);
+        for other in trees::neighbours(&tree) {
+            self.add("trials: check, each field changed", Case::Check(table.clone(), other));
+        }
     }
 
     fn soundings(&mut self) {
         let kind = "trials: soundings";
         let Sheet { table, .. } = harbour();
         let leaf = tree_of(&table);
-        for (want, allowance) in [(3, 7), (3, 6), (1, 3), (32, 0), (1, 0), (0, 7), (0x1ff, 7), (0xff, 7)] {
+        for (want, allowance) in SOUNDINGS {
             self.add(kind, Case::Search(table.clone(), leaf.clone(), want, allowance));
         }
         let both = Table { x: vec![5], y: vec![5], kit: vec![3] };
@@ -360,10 +243,22 @@ impl<'a> TrialsPlan<'a> {
         }
     }
 
+    fn odd_trees(&mut self, random: &mut Random) {
+        for _ in 0..4 {
+            let setting = tables::small(random);
+            let tree = trees::odd(random, &setting.table);
+            self.add("trials: check, odd tree", Case::Check(setting.table.clone(), tree.clone()));
+            self.search_changed(random, &setting, tree);
+        }
+    }
+
     fn search_changed(&mut self, random: &mut Random, setting: &Setting, tree: Tree) {
         let want = setting.want(random);
         let allowance = random.below(1000) as u32;
-        self.add("trials: search, changed tree", Case::Search(setting.table.clone(), tree, want, allowance));
+        self.add(
+            "trials: search, changed or odd tree",
+            Case::Search(setting.table.clone(), tree, want, allowance),
+        );
     }
 
     fn builds(&mut self, random: &mut Random) {

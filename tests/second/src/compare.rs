@@ -4,7 +4,7 @@ use std::collections::BTreeMap;
 use std::fs;
 use std::io::{Read, Write};
 use std::path::PathBuf;
-use std::process::{Child, Command, Stdio};
+use std::process::{self, Child, Command, Stdio};
 use std::sync::mpsc;
 use std::thread;
 use std::time::Duration;
@@ -45,7 +45,10 @@ impl Program {
             command.arg(&self.path);
         }
         let started = command.stdin(Stdio::piped()).stdout(Stdio::piped()).spawn();
-        started.unwrap_or_else(|error| panic!("{} does not start: {error}", self.path))
+        started.unwrap_or_else(|error| {
+            eprintln!("{} does not start: {error}", self.path);
+            process::exit(2)
+        })
     }
 
     /// Nothing if the time limit is over before the program has ended its output.
@@ -70,6 +73,7 @@ pub struct Report {
     counts: BTreeMap<&'static str, (u64, u64)>,
     keep: Option<PathBuf>,
     kept: bool,
+    left_out: u64,
 }
 
 impl Report {
@@ -96,6 +100,11 @@ impl Report {
         self.judge(kind, input, b"holds", actual);
     }
 
+    /// Counts a case that is too long for its program.
+    pub fn leave_out(&mut self) {
+        self.left_out += 1;
+    }
+
     fn show(&self, kind: &str, input: &[u8], expected: &[u8], actual: &[u8]) {
         println!("first difference, {kind}");
         println!("expected:\n{}", shown(expected));
@@ -117,6 +126,9 @@ impl Report {
             println!("{kind}: {} passed, {} failed", count.0, count.1);
             passed += count.0;
             failed += count.1;
+        }
+        if self.left_out > 0 {
+            println!("left out, too long: {}", self.left_out);
         }
         println!("{passed} passed, {failed} failed");
         failed == 0

@@ -24,11 +24,11 @@ use std::str::FromStr;
 use std::time::Duration;
 
 use compare::{Program, Report};
-use plan::{LibraryPlan, ProgramPlan};
+use plan::{LibraryPlan, ProgramPlan, Room};
 
 const USAGE: &str = "\
 second [--longhorbi PATH] [--trials PATH] [--runner PATH] [--seed N] [--cases M]
-       [--examples DIRECTORY] [--keep DIRECTORY] [--batch N] [--limit SECONDS]
+       [--examples DIRECTORY] [--keep DIRECTORY] [--batch N] [--most-bytes N] [--limit SECONDS]
     compares the programs with M random cases each, besides the lists that every run tries
 second answer < sheet
     prints what the program must print for the sheet
@@ -82,7 +82,7 @@ struct Options {
     keep: Option<PathBuf>,
     seed: u64,
     cases: u64,
-    batch: usize,
+    room: Room,
     limit: u64,
 }
 
@@ -95,7 +95,7 @@ fn options(words: &[String]) -> Result<Options, String> {
         keep: None,
         seed: 1,
         cases: 1000,
-        batch: 500,
+        room: Room { cases: 500, bytes: 4_000_000 },
         limit: 120,
     };
     for pair in words.chunks(2) {
@@ -110,7 +110,8 @@ fn options(words: &[String]) -> Result<Options, String> {
             "--keep" => options.keep = Some(value.into()),
             "--seed" => options.seed = number(value)?,
             "--cases" => options.cases = number(value)?,
-            "--batch" => options.batch = number(value)?,
+            "--batch" => options.room.cases = number(value)?,
+            "--most-bytes" => options.room.bytes = number(value)?,
             "--limit" => options.limit = number(value)?,
             _ => return Err(format!("{name} is not known")),
         }
@@ -138,7 +139,7 @@ fn compare(words: &[String]) -> Result<ExitCode, String> {
         plan.run(options.seed, options.cases);
     }
     if let Some(path) = &options.trials {
-        LibraryPlan::new(&program(path), &mut report, options.batch).run(options.seed, options.cases);
+        LibraryPlan::new(&program(path), &mut report, options.room).run(options.seed, options.cases);
     }
     Ok(if report.close() { ExitCode::SUCCESS } else { ExitCode::FAILURE })
 }

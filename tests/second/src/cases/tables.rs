@@ -144,6 +144,26 @@ pub fn spoil(random: &mut Random, table: &mut Table) {
     }
 }
 
+/// The table itself, with each fault of rules 11 and 12, and with both.
+pub fn faults(table: &Table) -> Vec<Table> {
+    let last = table.places() - 1;
+    let mut far = table.clone();
+    far.x[last] = 1_000_001;
+    let mut farther = far.clone();
+    farther.y[0] = -1_000_001;
+    let mut tables = vec![table.clone(), far.clone(), farther];
+    for table in [table, &far] {
+        let mut longer = table.clone();
+        longer.x.push(0);
+        let mut shorter = table.clone();
+        shorter.y.pop();
+        let mut without = table.clone();
+        without.kit.clear();
+        tables.extend([longer, shorter, without]);
+    }
+    tables
+}
+
 /// As many places as a table may have, with `more` above that.
 pub fn full(random: &mut Random, more: usize) -> Setting {
     setting(random, Ground::Wide, MOST_PLACES + more, 12, 12)

@@ -133,6 +133,26 @@ pub fn neighbours(tree: &Tree) -> Vec<Tree> {
     trees
 }
 
+/// Trees with two fields changed: the first, the middle and the last of each column, each with each.
+pub fn pairs_of_changes(tree: &Tree) -> Vec<Tree> {
+    let fields: Vec<(usize, usize)> = (0..COLUMNS)
+        .flat_map(|column| {
+            let length = if column == COLUMNS - 1 { tree.listed } else { tree.nodes } as usize;
+            [0, length / 2, length - 1].map(|index| (column, index))
+        })
+        .collect();
+    let mut trees = Vec::new();
+    for (at, first) in fields.iter().enumerate() {
+        for second in &fields[..at] {
+            let mut other = tree.clone();
+            nudge(&mut other.columns, first.0, first.1, true);
+            nudge(&mut other.columns, second.0, second.1, true);
+            trees.push(other);
+        }
+    }
+    trees
+}
+
 fn nudge(columns: &mut Columns, column: usize, index: usize, up: bool) {
     match column {
         0 => columns.level[index].nudge(up),

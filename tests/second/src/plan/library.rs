@@ -9,28 +9,31 @@ use crate::compare::{Program, Report};
 use crate::random::Random;
 use crate::sheet::Sheet;
 use crate::table::Table;
-use crate::tree::Tree;
+use crate::tree::{Columns, Tree};
 use crate::trials::{BAD, Case};
-
-/// A batch for `trials` ends when it is that long.
-const BATCH_BYTES: usize = 4_000_000;
 
 const BUILT: &str = "trials: search, builder's tree";
 const FOREIGN: &str = "trials: search, foreign tree";
 
+/// What goes into one process at most.
+#[derive(Clone, Copy)]
+pub struct Room {
+    pub cases: usize,
+    pub bytes: usize,
+}
+
 pub struct LibraryPlan<'a> {
     program: &'a Program,
     report: &'a mut Report,
-    /// How many cases go into one process at most.
-    batch: usize,
+    room: Room,
     waiting: Vec<(&'static str, Case)>,
     waiting_bytes: usize,
     tried: u64,
 }
 
 impl<'a> LibraryPlan<'a> {
-    pub fn new(program: &'a Program, report: &'a mut Report, batch: usize) -> LibraryPlan<'a> {
-        LibraryPlan { program, report, batch, waiting: Vec::new(), waiting_bytes: 0, tried: 0 }
+    pub fn new(program: &'a Program, report: &'a mut Report, room: Room) -> LibraryPlan<'a> {
+        LibraryPlan { program, report, room, waiting: Vec::new(), waiting_bytes: 0, tried: 0 }
     }
 
     pub fn run(&mut self, seed: u64, cases: u64) {
@@ -56,12 +59,17 @@ impl<'a> LibraryPlan<'a> {
     }
 
     fn add(&mut self, kind: &'static str, case: Case) {
-        self.waiting_bytes += 8 * case.words().len();
-        self.waiting.push((kind, case));
+        let bytes = 8 * case.words().len();
         self.tried += 1;
-        if self.waiting.len() >= self.batch || self.waiting_bytes >= BATCH_BYTES {
+        if bytes > self.room.bytes {
+            self.report.leave_out();
+            return;
+        }
+        if self.waiting.len() >= self.room.cases || self.waiting_bytes + bytes > self.room.bytes {
             self.flush();
         }
+        self.waiting_bytes += bytes;
+        self.waiting.push((kind, case));
     }
 
     fn flush(&mut self) {
@@ -93,6 +101,7 @@ impl<'a> LibraryPlan<'a> {
         }
         self.short_columns(random);
         self.neighbour_trees(random);
+        self.several_faults();
         self.greatest_trees(random);
         self.greatest_tables(random);
     }
@@ -117,6 +126,32 @@ impl<'a> LibraryPlan<'a> {
         let tree = trees::foreign_with(random, &table, &[5, 2, 1]);
         for other in trees::neighbours(&tree) {
             self.add("trials: check, each field changed", Case::Check(table.clone(), other));
+        }
+        for other in trees::pairs_of_changes(&tree) {
+            self.add("trials: check, two fields changed", Case::Check(table.clone(), other));
+        }
+    }
+
+    /// Faults of want, table, tree and room together: the first in the order of the refusals counts.
+    fn several_faults(&mut self) {
+        let kind = "trials: several faults";
+        let Sheet { table, .. } = harbour();
+        let good = tree_of(&table);
+        let mut bad = good.clone();
+        bad.columns.kits[0] = 0;
+        for table in tables::faults(&table) {
+            for want in [0, 0x1ff, 0x20, 3] {
+                for tree in [&good, &bad, &Tree::default()] {
+                    self.add(kind, Case::Search(table.clone(), tree.clone(), want, 0));
+                }
+            }
+            for columns in [&good.columns, &Columns::default()] {
+                self.add(kind, Case::Build(table.clone(), columns.clone()));
+            }
+            for room in [0, 1000] {
+                self.add(kind, Case::Write(table.clone(), 0, 0, vec![b'.'; room]));
+            }
+            self.add(kind, Case::Check(table, bad.clone()));
         }
     }
 

@@ -4,5 +4,5 @@ mod library;
 mod program;
 mod query;
 
-pub use library::LibraryPlan;
+pub use library::{LibraryPlan, Room};
 pub use program::ProgramPlan;

@@ -160,6 +160,7 @@ pub fn faults(table: &Table) -> Vec<Table> {
         let mut without = table.clone();
         without.kit.clear();
         tables.extend([longer, shorter, without]);
+        tables.push(Table { x: Vec::new(), ..table.clone() });
     }
     tables
 }

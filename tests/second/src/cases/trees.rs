@@ -133,24 +133,31 @@ pub fn neighbours(tree: &Tree) -> Vec<Tree> {
     trees
 }
 
-/// Trees with two fields changed: the first, the middle and the last of each column, each with each.
+/// Trees with two changes by 1: in the first, the middle and the last of each column, each with each.
 pub fn pairs_of_changes(tree: &Tree) -> Vec<Tree> {
-    let fields: Vec<(usize, usize)> = (0..COLUMNS)
-        .flat_map(|column| {
-            let length = if column == COLUMNS - 1 { tree.listed } else { tree.nodes } as usize;
-            [0, length / 2, length - 1].map(|index| (column, index))
-        })
-        .collect();
+    let changes = few_changes(tree);
     let mut trees = Vec::new();
-    for (at, first) in fields.iter().enumerate() {
-        for second in &fields[..at] {
+    for (at, first) in changes.iter().enumerate() {
+        for second in &changes[..at] {
             let mut other = tree.clone();
-            nudge(&mut other.columns, first.0, first.1, true);
-            nudge(&mut other.columns, second.0, second.1, true);
+            for &(column, index, up) in [first, second] {
+                nudge(&mut other.columns, column, index, up);
+            }
             trees.push(other);
         }
     }
     trees
+}
+
+fn few_changes(tree: &Tree) -> Vec<(usize, usize, bool)> {
+    let mut changes = Vec::new();
+    for column in 0..COLUMNS {
+        let length = if column == COLUMNS - 1 { tree.listed } else { tree.nodes } as usize;
+        for index in [0, length / 2, length - 1] {
+            changes.extend([(column, index, true), (column, index, false)]);
+        }
+    }
+    changes
 }
 
 fn nudge(columns: &mut Columns, column: usize, index: usize, up: bool) {

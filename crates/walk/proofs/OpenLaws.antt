@@ -14,7 +14,8 @@ use Rattle.plane.specs.declared.Box.{Box}
 use Rattle.table.specs.Table.{Table}
 use Rattle.tree.specs.Tree.{Tree, Thing, place, node, thing, level, levelOf, boxOf}
 use Rattle.closest.specs.Group.{farthest, spread}
-use Rattle.closest.specs.Candidate.{number, member, topmost, groupOf}
+use Rattle.closest.specs.Candidate.{number, member, topmost, groupOf, boxesIn}
+use Rattle.closest.specs.Walk.{boxes}
 use Rattle.tree.proofs.TreeLaws.{linked}
 use Rattle.closest.proofs.CandidateLaws.{inside, open-is}
 use Rattle.closest.proofs.EntryLaws.{is-place}
@@ -22,7 +23,7 @@ use Rattle.walk.specs.Members.{memberOf, membersOf, Placed, nobody, boxe
 use Rattle.walk.specs.declared.Member.{Member}
 use Rattle.walk.proofs.EntryLaws.{meets, ranged, node-high}
 use Rattle.walk.proofs.BoxesLaws.{spread-set}
-use Rattle.walk.proofs.MemberLaws.{StandFor, stands-at, getD-map, set-map, replaced-so}
+use Rattle.walk.proofs.MemberLaws.{boxes-are, StandFor, stands-at, getD-map, set-map, replaced-so}
 
 all-ranged : (l : List Box) → ((i : ℕ) (d : Box) → i < length l → Ranged (getD l i d)) → AllRanged l
 all-ranged [] h = tt
@@ -53,6 +54,10 @@ module _ {t : Table} {tree : Tree} (p : Passes t tree) where
 
     pub placed : Placed tree (thingsOf (take m cand))
     placed i h e = is-place (linked (meets p)) (member (thingsOf (take m cand)) i) (real-at i (omega (arith, many))) e
+
+    -- the spread of the boxes of a candidate's members is that of its things
+    pub spread-in : spread (boxesOf (take m cand)) ≡ spread (boxesIn (boxes t tree) kinds (thingsOf (take m cand)))
+    spread-in = ap spread (boxes-are stand kinds (sym (length-map (take m cand) thingOf ∙ f .size)))
 
     pub boxes-ranged : AllRanged (boxesOf (take m cand))
     boxes-ranged =

@@ -18,7 +18,7 @@ use Rattle.walks.proofs.WalkLaws.{at-drop, at-group, at-open}
 use Rattle.closest.specs.Group.{spread, diameter}
 use Rattle.closest.specs.Candidate.{number, member, topmost, groupOf, scene, boxesIn, tooFar}
 use Rattle.closest.specs.Walk.{holds, boxes}
-use Rattle.walk.specs.State.{improved, kept, walkBest, standOf, Turned}
+use Rattle.walk.specs.State.{PassedOver, improved, kept, walkBest, standOf, Turned}
 use Rattle.walk.specs.declared.Best.{Best}
 use Rattle.walk.specs.declared.State.{State}
 use Rattle.walk.specs.declared.Turn.{Turn}
@@ -82,17 +82,10 @@ module _ (t : Table) (w : Tree) (kinds : List ℕ) (allowance : ℕ) (c : List T
       let no : r .opens ≡ true → ⊥ = λ h. true≢false (sym h ∙ e) in
       record { done = λ _. d; left = λ h. absurd (no h); whole = λ h. absurd (no h); top = λ h. absurd (no h); steps = λ h. absurd (no h); room = λ h. absurd (no h) }
 
-  pub turned-spent : s .spent ≡ true → Turned t w kinds allowance c s (record { opens = false; top = 0; state = s })
-  turned-spent e = shut _ refl (sym (stays allowance _ (standOf s) e))
+  pub turned-done : {v : State} → standOf v ≡ advance allowance (walkBest t w kinds c (s .best)) (standOf s) → Turned t w kinds allowance c s (record { opens = false; top = 0; state = v })
+  turned-done d = shut _ refl d
 
   module _ (going : s .spent ≡ false) where
-    pub turned-over : allowance ≤ s .steps → Turned t w kinds allowance c s (record { opens = false; top = 0; state = record { steps = s .steps; spent = true; best = s .best } })
-    turned-over h = shut _ refl (sym (over allowance (standOf s) going _ (some-step _ _ _ _ _ _) h))
-
-    pub turned-drop : s .steps < allowance → drops true → Turned t w kinds allowance c s (turn (s .best) false 0)
-    unfolding advance
-    turned-drop h e = shut _ refl (rw (at-drop _ _ _ _ _ _ e) (sym (counted allowance (standOf s) going (s .best) h)))
-
     pub turned-group : {g : List ℕ} {b : Best} → s .steps < allowance → drops false → groupOf (w .shape) c ≡ some g → b ≡ improved (padded g) (diameter t g) (s .best) → Turned t w kinds allowance c s (turn b false 0)
     unfolding advance
     turned-group {b = b} h e g q = shut _ refl (rw (at-group _ _ _ _ _ _ e g, ← q) (sym (counted allowance (standOf s) going b h)))
@@ -106,3 +99,23 @@ module _ (t : Table) (w : Tree) (kinds : List ℕ) (allowance : ℕ) (c : List T
       steps = λ p. sym (counted allowance (standOf s) going (s .best) h);
       room = λ p. refl;
     }
+
+-- ---- a candidate that is done with before its members are looked at
+
+module _ (allowance d : ℕ) (s : State) where
+  done-so : (v : State) → ((t : Table) (w : Tree) (kinds : List ℕ) (c : List Thing) → d ≡ spread (boxesIn (boxes t w) kinds c) → standOf v ≡ advance allowance (walkBest t w kinds c (s .best)) (standOf s)) → PassedOver allowance d s (record { done = true; state = v })
+  done-so v f = record { over = λ _. f; same = λ h. absurd (true≢false h); going = λ h. absurd (true≢false h); room = λ h. absurd (true≢false h); near = λ h. absurd (true≢false h) }
+
+  pub passed-spent : s .spent ≡ true → PassedOver allowance d s (record { done = true; state = s })
+  passed-spent e = done-so s (λ t w kinds c _. sym (stays allowance _ (standOf s) e))
+
+  module _ (going : s .spent ≡ false) where
+    pub passed-over : allowance ≤ s .steps → PassedOver allowance d s (record { done = true; state = record { steps = s .steps; spent = true; best = s .best } })
+    passed-over h = done-so _ (λ t w kinds c _. sym (over allowance (standOf s) going _ (some-step _ _ _ _ _ _) h))
+
+    pub passed-drop : s .steps < allowance → (s .best .known && ltb (s .best .squared) d) ≡ true → PassedOver allowance d s (record { done = true; state = record { steps = s .steps + 1; spent = false; best = s .best } })
+    unfolding advance
+    passed-drop h e = done-so _ (λ t w kinds c q. rw (at-drop _ _ _ _ _ _ (dropped-is t w kinds c (s .best) q ∙ e)) (sym (counted allowance (standOf s) going (s .best) h)))
+
+    pub passed-not : s .steps < allowance → (s .best .known && ltb (s .best .squared) d) ≡ false → PassedOver allowance d s (record { done = false; state = s })
+    passed-not h e = record { over = λ p. absurd (true≢false (sym p)); same = λ _. refl; going = λ _. going; room = λ _. h; near = λ _. e }

@@ -9,10 +9,10 @@ use Rattle.table.specs.Table.{Table}
 use Rattle.tree.specs.Tree.{Tree, node, levelOf, startOf, countOf}
 use Rattle.closest.specs.Group.{spread}
 use Rattle.closest.specs.Candidate.{member, entry}
-use Rattle.walk.specs.Members.{boxesOf, without, thingsOf, Fair}
+use Rattle.walk.specs.Members.{memberOf, boxesOf, without, thingsOf}
 use Rattle.walk.specs.declared.Member.{Member}
 use Rattle.walk.specs.declared.Opening.{Opening}
-use Rattle.walk.specs.declared.Next.{Next}
+use Rattle.walk.specs.declared.Near.{Near}
 
 -- what is kept of an opened candidate: the member to replace, a node; its kind and its run; the boxes of the others and their spread
 pub record Opens (t : Table) (tree : Tree) (kinds : List ℕ) (m : ℕ) (cand : List Member) (o : Opening) : Type 0 where
@@ -26,8 +26,7 @@ pub record Opens (t : Table) (tree : Tree) (kinds : List ℕ) (m : ℕ) (cand : 
   pub others : take (m - 1) (o .others) ≡ without (o .top) (boxesOf (take m cand))
   pub rest : o .rest ≡ spread (without (o .top) (boxesOf (take m cand)))
 
--- the candidate in which entry k of the run replaces the member
-pub record Goes (t : Table) (tree : Tree) (kinds : List ℕ) (m : ℕ) (cand : List Member) (o : Opening) (k : ℕ) (r : Next) : Type 0 where
-  pub fair : Fair t tree kinds (take m (r .cand))
-  pub is : thingsOf (take m (r .cand)) ≡ set (thingsOf (take m cand)) (o .top) (entry (tree .shape) (o .node) k)
-  pub spread : r .spread ≡ spread (boxesOf (take m (r .cand)))
+-- entry k of the run: the member that stands for it, and the spread of the candidate in which it replaces the member
+pub record Comes (t : Table) (tree : Tree) (m : ℕ) (cand : List Member) (o : Opening) (k : ℕ) (r : Near) : Type 0 where
+  pub member : r .member ≡ memberOf t tree (entry (tree .shape) (o .node) k)
+  pub spread : r .spread ≡ spread (boxesOf (take m (set cand (o .top) (r .member))))

@@ -1,10 +1,10 @@
 -- Where a walk stands, as the code has it.
 -- Assumes nothing.
 use mathlib.Core.Path.{_≡_}
-use mathlib.Core.Bool.{Bool, true, false}
+use mathlib.Core.Bool.{Bool, true, false, _&&_}
 use mathlib.Core.List.{List}
 use mathlib.Core.Option.{Option, none, some}
-use Prim.Native.Nat.{ℕ, suc}
+use Prim.Native.Nat.{ℕ, suc, _<_}
 use lib.Dec.{ltb}
 use lib.ListN.{replicate}
 use Rattle.kit.specs.Kit.{padded}
@@ -13,11 +13,12 @@ use Rattle.tree.specs.Tree.{Tree, Thing}
 use Rattle.walks.specs.Allowance.{Stand, stand, step, advance}
 use Rattle.walks.specs.Walk.{Memory, walk, dropped}
 use Rattle.walks.specs.Order.{before}
-use Rattle.closest.specs.Group.{diameter}
-use Rattle.closest.specs.Candidate.{levels, topmost, groupOf, scene, tooFar}
+use Rattle.closest.specs.Group.{diameter, spread}
+use Rattle.closest.specs.Candidate.{levels, topmost, groupOf, boxesIn, scene, tooFar}
 use Rattle.closest.specs.Walk.{holds, boxes}
 use Rattle.walk.specs.declared.Best.{Best}
 use Rattle.walk.specs.declared.State.{State}
+use Rattle.walk.specs.declared.Passed.{Passed}
 use Rattle.walk.specs.declared.Turn.{Turn}
 
 -- the best group known; its unused place numbers are 0
@@ -57,6 +58,14 @@ walkBest t tree kinds c b = walk (scene (tree .shape) (holds t tree) kinds) (kep
 -- where the walk stands
 abbrev pub standOf : State → Stand Best
 standOf s = stand (s .steps) (s .spent) (s .best)
+
+-- a candidate of a spread is done with where no step is left for it or it is dropped; else nothing has changed
+pub record PassedOver (allowance d : ℕ) (s : State) (r : Passed) : Type 0 where
+  pub over : r .done ≡ true → (t : Table) (tree : Tree) (kinds : List ℕ) (c : List Thing) → d ≡ spread (boxesIn (boxes t tree) kinds c) → standOf (r .state) ≡ advance allowance (walkBest t tree kinds c (s .best)) (standOf s)
+  pub same : r .done ≡ false → r .state ≡ s
+  pub going : r .done ≡ false → s .spent ≡ false
+  pub room : r .done ≡ false → s .steps < allowance
+  pub near : r .done ≡ false → (s .best .known && ltb (s .best .squared) d) ≡ false
 
 -- what one step of the code does: a candidate that is not opened is done with, one that is opened is neither dropped nor a group
 pub record Turned (t : Table) (tree : Tree) (kinds : List ℕ) (allowance : ℕ) (c : List Thing) (s : State) (r : Turn) : Type 0 where

@@ -6,7 +6,7 @@ ghost use mathlib.Core.Option.{none};
 ghost use Prim.Native.Nat.{ℕ, _+_, _-_, _≤_, _<_, max};
 ghost use lib.IntN.{ℤ};
 ghost use lib.Dec.{ltb};
-ghost use lib.ListN.{length, take, drop, getD};
+ghost use lib.ListN.{length, take, drop, getD, set};
 ghost use Rattle.plane.specs.Plane.{Ranged};
 ghost use Rattle.kit.specs.Kit.{held, padded};
 ghost use Rattle.table.specs.Table.{Table, table};
@@ -18,8 +18,8 @@ ghost use Rattle.closest.specs.Group.{farthest, spread};
 ghost use Rattle.closest.specs.Walk.{boxes, begins, standsAt};
 ghost use Rattle.closest.specs.Candidate.{topmost, boxesIn, groupOf};
 ghost use Rattle.walk.specs.Members.{memberOf, membersOf, Placed, boxesOf, without, skip, AllRanged, thingsOf, Fair, Few, Passes};
-ghost use Rattle.walk.specs.Opening.{Opens, Goes};
-ghost use Rattle.walk.specs.State.{improved, Turned, standOf, stateOf, walkBest};
+ghost use Rattle.walk.specs.Opening.{Opens, Comes};
+ghost use Rattle.walk.specs.State.{improved, PassedOver, Turned, standOf, stateOf, walkBest};
 ghost use Rattle.walks.specs.Allowance.{advance};
 
 // A member of a candidate; a place has level 0.
@@ -212,17 +212,21 @@ fn is_dropped(spread: u64, best: Best) -> bool
     }
 }
 
-// Takes a candidate whose spread is known: one step.
-fn take_step(m: usize, allowance: u32, cand: [Member; 8], spread: u64, s: State) -> Turn
-    requires { ⌜ (0 < m) × (m ≤ 8) ⌝ }
-    ensures { λ r. ⌜ ((t : Table) (w : Tree) (kinds : List ℕ) (c : List Thing) → take m cand ≡ membersOf t w c → length kinds ≡ length c → Placed w c → spread ≡ Group.spread (boxesIn (boxes t w) kinds c) → Turned t w kinds allowance c s r) ⌝ }
+// A candidate of this spread that is done with before its members are looked at, and the state then.
+pub struct Passed {
+    pub done: bool,
+    pub state: State,
+}
+
+// Is there no step left for a candidate of this spread, or is it dropped?
+fn pass_over(allowance: u32, spread: u64, s: State) -> Passed
+    ensures { λ r. ⌜ PassedOver allowance spread s r ⌝ }
 {
     let steps = s.steps;
     let best = s.best;
     if s.spent {
-        return Turn {
-            opens: false,
-            top: 0,
+        return Passed {
+            done: true,
             state: s,
         };
     }
@@ -232,15 +236,38 @@ fn take_step(m: usize, allowance: u32, cand: [Member; 8], spread: u64, s: State)
             spent: true,
             best,
         };
+        return Passed { done: true, state };
+    }
+    if is_dropped(spread, best) {
+        let state = State {
+            steps: steps + 1,
+            spent: false,
+            best,
+        };
+        return Passed { done: true, state };
+    }
+    Passed {
+        done: false,
+        state: s,
+    }
+}
+
+// Takes a candidate whose spread is known: one step.
+fn take_step(m: usize, allowance: u32, cand: [Member; 8], spread: u64, s: State) -> Turn
+    requires { ⌜ (0 < m) × (m ≤ 8) ⌝ }
+    ensures { λ r. ⌜ ((t : Table) (w : Tree) (kinds : List ℕ) (c : List Thing) → take m cand ≡ membersOf t w c → length kinds ≡ length c → Placed w c → spread ≡ Group.spread (boxesIn (boxes t w) kinds c) → Turned t w kinds allowance c s r) ⌝ }
+{
+    let p = pass_over(allowance, spread, s);
+    if p.done {
+        let state = p.state;
         return Turn {
             opens: false,
             top: 0,
             state,
         };
     }
-    if is_dropped(spread, best) {
-        return turn_of(steps + 1, best, false, 0);
-    }
+    let steps = s.steps;
+    let best = s.best;
     let top = find_topmost(m, cand);
     let a = cand[top];
     if a.level == 0 {
@@ -367,14 +394,14 @@ fn open_at(
     }
 }
 
-// The candidate that an entry gives.
-pub struct Next {
-    pub cand: [Member; 8],
+// What an entry gives: the member that stands for it, and the spread of the candidate with it.
+pub struct Near {
+    pub member: Member,
     pub spread: u64,
 }
 
-// The opened candidate with entry k of its run for the member.
-fn next_at(
+// Entry k of the run of an opened candidate.
+fn near_at(
     level: &[u8],
     start: &[u16],
     count: &[u8],
@@ -394,21 +421,28 @@ fn next_at(
     cand: [Member; 8],
     o: Opening,
     k: usize,
-) -> Next
+) -> Near
     requires { ⌜ Passes (table (now x) (now y) (now kit)) (tree (shape nodes listed (now level) (now start) (now count) (now entries)) (sides (now «x_lo») (now «x_hi») (now «y_lo») (now «y_hi»)) (now kits)) ⌝ }
     requires { ⌜ Few m kinds ⌝ }
     requires { ⌜ Fair (table (now x) (now y) (now kit)) (tree (shape nodes listed (now level) (now start) (now count) (now entries)) (sides (now «x_lo») (now «x_hi») (now «y_lo») (now «y_hi»)) (now kits)) (take m kinds) (take m cand) ⌝ }
     requires { ⌜ (k < o .many) × Opens (table (now x) (now y) (now kit)) (tree (shape nodes listed (now level) (now start) (now count) (now entries)) (sides (now «x_lo») (now «x_hi») (now «y_lo») (now «y_hi»)) (now kits)) (take m kinds) m cand o ⌝ }
-    ensures { λ r. ⌜ Goes (table (now (x .entry)) (now (y .entry)) (now (kit .entry))) (tree (shape nodes listed (now (level .entry)) (now (start .entry)) (now (count .entry)) (now (entries .entry))) (sides (now («x_lo» .entry)) (now («x_hi» .entry)) (now («y_lo» .entry)) (now («y_hi» .entry))) (now (kits .entry))) (take m kinds) m cand o k r ⌝ }
+    ensures { λ r. ⌜ Comes (table (now (x .entry)) (now (y .entry)) (now (kit .entry))) (tree (shape nodes listed (now (level .entry)) (now (start .entry)) (now (count .entry)) (now (entries .entry))) (sides (now («x_lo» .entry)) (now («x_hi» .entry)) (now («y_lo» .entry)) (now («y_hi» .entry))) (now (kits .entry))) m cand o k r ⌝ }
 {
     let e = tree::wide16(entries[o.first + k]);
-    let b = member_at(o.leaf, e, level, x, y, x_lo, x_hi, y_lo, y_hi);
-    let top = o.top;
-    let mut next = cand;
-    next[top] = b;
+    let member = member_at(o.leaf, e, level, x, y, x_lo, x_hi, y_lo, y_hi);
     let others = o.others;
-    let spread = farthest_of(m - 1, others, 0, b.at, o.rest);
-    Next { cand: next, spread }
+    let spread = farthest_of(m - 1, others, 0, member.at, o.rest);
+    Near { member, spread }
+}
+
+// The candidate with member i replaced.
+fn replace(cand: [Member; 8], i: usize, a: Member) -> [Member; 8]
+    requires { ⌜ i < 8 ⌝ }
+    ensures { λ r. ⌜ r ≡ set cand i a ⌝ }
+{
+    let mut c = cand;
+    c[i] = a;
+    c
 }
 
 // Takes a candidate, of which m members stand for things and whose spread is known, and all below it.
@@ -470,7 +504,7 @@ fn walk(
         let here = k;
         k += 1;
         if holds_at(o.leaf, o.first + here, o.kind, entries, kit, kits) {
-            let next = next_at(
+            let near = near_at(
                 level,
                 start,
                 count,
@@ -491,29 +525,33 @@ fn walk(
                 o,
                 here,
             );
-            let c = next.cand;
-            st = walk(
-                level,
-                start,
-                count,
-                entries,
-                x,
-                y,
-                kit,
-                x_lo,
-                x_hi,
-                y_lo,
-                y_hi,
-                kits,
-                nodes,
-                listed,
-                kinds,
-                m,
-                allowance,
-                c,
-                next.spread,
-                st,
-            );
+            let p = pass_over(allowance, near.spread, st);
+            st = p.state;
+            if !p.done {
+                let c = replace(cand, o.top, near.member);
+                st = walk(
+                    level,
+                    start,
+                    count,
+                    entries,
+                    x,
+                    y,
+                    kit,
+                    x_lo,
+                    x_hi,
+                    y_lo,
+                    y_hi,
+                    kits,
+                    nodes,
+                    listed,
+                    kinds,
+                    m,
+                    allowance,
+                    c,
+                    near.spread,
+                    st,
+                );
+            }
         }
     }
     st

@@ -1,33 +1,39 @@
-use Prim.Native.Nat.{ℕ, suc, _-_, _≤_, _<_}
-use mathlib.Core.Path.{_≡_, refl, sym, ap, ap₂, _∙_}
+use Prim.Native.Nat.{ℕ, suc, _+_, _-_, _≤_, _<_}
+use mathlib.Core.Path.{_≡_, refl, sym, ap, ap₂, subst, _∙_}
+use mathlib.Core.Bool.{true}
 use mathlib.Core.List.{List}
 use native.Mathlib.Omega.{arith}
 use borrow.Author.Needs.{needs}
-use lib.ListN.{length, take, drop, getD, length-map}
+use lib.ListN.{length, take, drop, getD, set, length-map, length-set}
 use borrow.Author.Tests.{not-true, not-false}
 use Rattle.table.specs.Table.{Table, table}
 use Rattle.tree.specs.Tree.{Tree, Thing, node, level, countOf}
 use Rattle.tree.specs.Lent.{shape, sides, tree}
-use Rattle.closest.specs.Candidate.{entriesOf, entry, member, levels, topmost}
-use Rattle.closest.specs.Walk.{holds}
-use Rattle.walks.specs.Allowance.{advance}
-use Rattle.walk.specs.Members.{thingOf, thingsOf, Fair}
+use Rattle.closest.specs.Candidate.{entriesOf, entry, member, levels, topmost, boxesIn}
+use Rattle.closest.specs.Walk.{holds, boxes}
+use Rattle.walks.specs.Allowance.{Stand, advance}
+use Rattle.walk.specs.Members.{thingOf, thingsOf, boxesOf, Real, Fair}
+use Rattle.walk.specs.declared.Member.{Member}
+use Rattle.walk.specs.declared.Best.{Best}
+use Rattle.walk.specs.declared.State.{State}
 use Rattle.walk.specs.Opening.{Opens}
 use Rattle.walk.specs.State.{standOf, walkBest, Turned}
 use Rattle.walk.proofs.StepLaws.{leads, one-lower, again-held, again-not, ended, walk-open}
 use Rattle.walk.proofs.HeightLaws.{heights, fair-levels}
 use Rattle.closest.specs.Group.{spread}
 use Rattle.walk.proofs.MemberLaws.{boxes-are}
-use Rattle.walk.proofs.OpenLaws.{stand, many, placed}
+use Rattle.walk.proofs.OpenLaws.{stand, many, placed, fair-set, things-set, spread-in}
 use Rattle.walk.proofs.EntryLaws.{meets, entry-lower}
-use Rattle.walk.proofs.RunLaws.{kind-small, in-run, in-list, in-few, is-entry, reads}
+use Rattle.walk.proofs.RunLaws.{kind-small, in-run, in-list, in-few, is-entry, real, reads}
 use borrow.Fn.Kinds.{In}
 use borrow.Fn.PlainCycle.{Measures, is, falls, and}
 use Rattle.walk.proofs.walk.Reads as walk
 use Rattle.walk.proofs.walk.Kinds as walk-kinds
 use Rattle.walk.proofs.+walk.Lts-walk as walk-lts
 use Rattle.walk.proofs.holds_at.Reads as holds-at-reads
-use Rattle.walk.proofs.next_at.Reads as next-at-reads
+use Rattle.walk.proofs.near_at.Reads as near-at-reads
+use Rattle.walk.proofs.pass_over.Reads as pass-over-reads
+use Rattle.walk.proofs.replace.Reads as replace-reads
 use Rattle.walk.proofs.open_at.Reads as open-at-reads
 use Rattle.walk.proofs.take_step.Reads as take-step-reads
 use Rattle.walk.proofs.+walk.{statement}
@@ -50,8 +56,12 @@ claims t = (
   open-at-reads.Learnt,
   holds-at-reads.Asked,
   holds-at-reads.Learnt,
-  next-at-reads.Asked,
-  next-at-reads.Learnt,
+  near-at-reads.Asked,
+  near-at-reads.Learnt,
+  pass-over-reads.Asked,
+  pass-over-reads.Learnt,
+  replace-reads.Asked,
+  replace-reads.Learnt,
   walk-below t,
   walk.Post,
 )
@@ -179,32 +189,93 @@ held t c =
     c .holds-at .ensures (s .args .x .now) (s .args .y .now)
     ∙ ap₂ (λ (x : Thing) (kind : ℕ). holds (places t s) (over t s) kind x) (is-entry (s .pre .1 .0) (opens t a) (k t a) (a .before .if2 .taken)) (opens t a .kind)
 
-walk-next-at-requires : (t : ℕ) → walk-lts.Need-next-at-requires (claims t) (walk-at t) walk.Post walk-Inv-loop walk-μ-loop
-walk-next-at-requires t c κs =
+walk-near-at-requires : (t : ℕ) → walk-lts.Need-near-at-requires (claims t) (walk-at t) walk.Post walk-Inv-loop walk-μ-loop
+walk-near-at-requires t c κs =
     let a : At t = c .before .before in
     (b t a .pre .1 .0, (b t a .pre .1 .1 .0, (b t a .pre .1 .1 .1 .0, (a .before .if2 .taken, opens t a))))
 
+walk-pass-over-requires : (t : ℕ) → walk-lts.Need-pass-over-requires (claims t) (walk-at t) walk.Post walk-Inv-loop walk-μ-loop
+walk-pass-over-requires t c κs = tt
+
+walk-replace-requires : (t : ℕ) → walk-lts.Need-replace-requires (claims t) (walk-at t) walk.Post walk-Inv-loop walk-μ-loop
+walk-replace-requires t c κs =
+    let a : At t = c .before .before .before .before .before .before .before in
+    omega (arith, opens t a .inside, b t a .pre .1 .1 .0 .most)
+
+-- the candidate with the entry for the member
+abbrev Came : ℕ → Type 0
+Came t = walk-lts.After-near-at (claims t) (walk-at t) walk.Post walk-Inv-loop walk-μ-loop
+
+module _ (t : ℕ) (c : Came t) where
+  abbrev here : At t
+  here = c .before .before .before
+
+  abbrev next : List Member
+  next = set (b t here .args .cand) (o t here .open-at .result .top) (c .near-at .result .member)
+
+  abbrev of : Start t
+  of = b t here
+
+  really : Real (places t of) (over t of) (y t here)
+  really = real (of .pre .1 .0) (opens t here) (k t here) (here .before .if2 .taken)
+
+  fair : Fair (places t of) (over t of) (wanted t of) (take (of .args .m) next)
+  fair =
+      subst (λ (a : Member). Fair (places t of) (over t of) (wanted t of) (take (of .args .m) (set (of .args .cand) (o t here .open-at .result .top) a))) (sym (c .near-at .ensures .member))
+      (fair-set (of .pre .1 .0) (wanted t of) (of .args .m) (of .args .cand) (long t of) (of .pre .1 .1 .1 .0) (o t here .open-at .result .top) (y t here) (opens t here .inside) really)
+
+  stands : thingsOf (take (of .args .m) next) ≡ set (things t of) (o t here .open-at .result .top) (y t here)
+  stands =
+      ap (λ (a : Member). thingsOf (take (of .args .m) (set (of .args .cand) (o t here .open-at .result .top) a))) (c .near-at .ensures .member)
+      ∙ things-set (of .pre .1 .0) (wanted t of) (of .args .m) (of .args .cand) (long t of) (of .pre .1 .1 .1 .0) (o t here .open-at .result .top) (y t here) (opens t here .inside) really
+
+  fallen : heights (take (of .args .m) next) < heights (take (of .args .m) (of .args .cand))
+  fallen =
+      omega (arith, fair-levels fair ∙ ap (levels (over t of .shape)) stands, one-lower (over t of .shape) (things t of) (o t here .open-at .result .top) (y t here) (inside t (o t here)) (lower t here), fair-levels (of .pre .1 .1 .1 .0))
+
+  -- its spread, as the walk has it
+  apart : c .near-at .result .spread ≡ spread (boxesIn (boxes (places t of) (over t of)) (wanted t of) (thingsOf (take (of .args .m) next)))
+  apart =
+      let long-next : of .args .m ≤ length next = omega (arith, length-set (of .args .cand) (o t here .open-at .result .top) (c .near-at .result .member), long t of) in
+      c .near-at .ensures .spread ∙ spread-in (of .pre .1 .0) (wanted t of) (of .args .m) next long-next fair
+
 walk-walk-requires : (t : ℕ) → walk-lts.Need-walk-requires (claims t) (walk-at t) walk.Post walk-Inv-loop walk-μ-loop
 walk-walk-requires t c κs =
-    let a : At t = c .before .before .before .before in
-    let s = b t a in
-    let goes = c .before .next-at .ensures in
-    let fallen : heights (take (s .args .m) (c .before .next-at .result .cand)) < heights (take (s .args .m) (s .args .cand)) =
-    omega (arith, fair-levels (goes .fair) ∙ ap (levels (over t s .shape)) (goes .is), one-lower (over t s .shape) (things t s) (o t a .open-at .result .top) (y t a) (inside t (o t a)) (lower t a), fair-levels (s .pre .1 .1 .1 .0)) in
-    (omega (arith, fallen, s .pre .0), (s .pre .1 .0, (s .pre .1 .1 .0, (goes .fair, goes .spread))))
+    let d : Came t = c .before .before .before .before .before in
+    let s = of t d in
+    let e = c .replace .ensures in
+    let f : heights (take (s .args .m) (c .replace .result)) ≡ heights (take (s .args .m) (next t d)) = ap (λ (l : List Member). heights (take (s .args .m) l)) e in
+    (omega (arith, fallen t d, s .pre .0), (s .pre .1 .0, (s .pre .1 .1 .0, (subst (λ (l : List Member). Fair (places t s) (over t s) (wanted t s) (take (s .args .m) l)) (sym e) (fair t d), d .near-at .ensures .spread ∙ ap (λ (l : List Member). spread (boxesOf (take (s .args .m) l))) (sym e)))))
+
+-- what is left to do once the entry's candidate is done with
+module _ (t : ℕ) (d : Came t) (v : Stand Best) where
+  abbrev st : State
+  st = here t d .before .before .before .loop .st
+
+  on : holds (places t (of t d)) (over t (of t d)) (getD (wanted t (of t d)) (o t (here t d) .open-at .result .top) 0) (y t (here t d)) ≡ true →
+      v ≡ advance (of t d .args .allowance) (walkBest (places t (of t d)) (over t (of t d)) (wanted t (of t d)) (thingsOf (take (of t d .args .m) (next t d))) (st .best)) (standOf st) →
+      leads (places t (of t d)) (over t (of t d)) (wanted t (of t d)) (of t d .args .allowance) (things t (of t d)) (o t (here t d) .open-at .result .top) (drop (k t (here t d) + 1) (entriesOf (over t (of t d) .shape) (node (o t (here t d) .open-at .result .node)))) v
+      ≡ leads (places t (of t d)) (over t (of t d)) (wanted t (of t d)) (of t d .args .allowance) (things t (of t d)) (o t (here t d) .open-at .result .top) (entriesOf (over t (of t d) .shape) (node (o t (here t d) .open-at .result .node))) (standOf (taken t (o t (here t d)) .take-step .result .state))
+  on h e =
+      let a = here t d in
+      let s = of t d in
+      sym (again-held (places t s) (over t s) (wanted t s) (s .args .allowance) (things t s) (o t a .open-at .result .top) (o t a .open-at .result .node) (k t a) (standOf st) v (within t a) h (inside t (o t a)) (lower t a)
+      (e ∙ ap (λ (c : List Thing). advance (s .args .allowance) (walkBest (places t s) (over t s) (wanted t s) c (st .best)) (standOf st)) (stands t d)))
+      ∙ a .before .before .before .loop .inv .1
 
 walk-loop-less : (t : ℕ) → walk-lts.Need-loop-less (claims t) (walk-at t) walk.Post walk-Inv-loop walk-μ-loop
 walk-loop-less t c = search needs
 
 walk-loop-again : (t : ℕ) → walk-lts.Need-loop-again (claims t) (walk-at t) walk.Post walk-Inv-loop walk-μ-loop
 walk-loop-again t c =
-    let r : Round t = c .before .before .before .before in
-    let a : At t = r .before in
-    let s = b t a in
-    let st = a .before .before .before .loop .st in (
+    let d : Came t = c .before .before .before .before .before .before in
+    let r : Round t = d .before .before in
+    let s = of t d in
+    let same = c .before .before .before .before .before .pass-over .ensures .same (not-true _ (c .before .before .if4 .taken)) in (
       omega arith,
-      sym (again-held (places t s) (over t s) (wanted t s) (s .args .allowance) (things t s) (o t a .open-at .result .top) (o t a .open-at .result .node) (k t a) (standOf st) (standOf (c .walk .result)) (within t a) (sym (held t r) ∙ c .before .before .before .if3 .taken) (inside t (o t a)) (lower t a)
-          (c .walk .ensures ∙ ap (λ (d : List Thing). advance (s .args .allowance) (walkBest (places t s) (over t s) (wanted t s) d (st .best)) (standOf st)) (c .before .before .next-at .ensures .is))) ∙ a .before .before .before .loop .inv .1,
+      on t d (standOf (c .walk .result)) (sym (held t r) ∙ d .before .if3 .taken)
+          (c .walk .ensures
+          ∙ ap₂ (λ (l : List Member) (q : State). advance (s .args .allowance) (walkBest (places t s) (over t s) (wanted t s) (thingsOf (take (s .args .m) l)) (q .best)) (standOf q)) (c .before .replace .ensures) same),
     )
 
 walk-loop-less-2 : (t : ℕ) → walk-lts.Need-loop-less-2 (claims t) (walk-at t) walk.Post walk-Inv-loop walk-μ-loop
@@ -212,6 +283,17 @@ walk-loop-less-2 t c = search needs
 
 walk-loop-again-2 : (t : ℕ) → walk-lts.Need-loop-again-2 (claims t) (walk-at t) walk.Post walk-Inv-loop walk-μ-loop
 walk-loop-again-2 t c =
+    let d : Came t = c .before .before .before .before in
+    let r : Round t = d .before .before in
+    let s = of t d in
+    let p = c .before .before .before .pass-over in
+    (omega arith, on t d (standOf (p .result .state)) (sym (held t r) ∙ d .before .if3 .taken) (p .ensures .over (not-false _ (c .if4 .left)) (places t s) (over t s) (wanted t s) (thingsOf (take (s .args .m) (next t d))) (apart t d)))
+
+walk-loop-less-3 : (t : ℕ) → walk-lts.Need-loop-less-3 (claims t) (walk-at t) walk.Post walk-Inv-loop walk-μ-loop
+walk-loop-less-3 t c = search needs
+
+walk-loop-again-3 : (t : ℕ) → walk-lts.Need-loop-again-3 (claims t) (walk-at t) walk.Post walk-Inv-loop walk-μ-loop
+walk-loop-again-3 t c =
     let r : Round t = c .before in
     let a : At t = r .before in
     let s = b t a in
@@ -250,10 +332,14 @@ pub +walk-spec : {M : Type 1} → statement M
     (walk-add-k t)
     (walk-add-holds-at t)
     (walk-holds-at-requires t)
-    (walk-next-at-requires t)
+    (walk-near-at-requires t)
+    (walk-pass-over-requires t)
+    (walk-replace-requires t)
     (walk-walk-requires t)
     (walk-loop-less t)
     (walk-loop-again t)
     (walk-loop-less-2 t)
     (walk-loop-again-2 t)
+    (walk-loop-less-3 t)
+    (walk-loop-again-3 t)
     (walk-returns-2 t)

@@ -11,15 +11,15 @@ use Rattle.tree.specs.Rules.{lengths, Room}
 use Rattle.closest.specs.Group.{farthest, spread}
 use Rattle.closest.specs.Candidate.{entry}
 use Rattle.plane.specs.Plane.{Ranged}
-use Rattle.walk.specs.Members.{memberOf, AllRanged, boxesOf, thingsOf, Real, Fair}
+use Rattle.walk.specs.Members.{memberOf, AllRanged, boxesOf, Real}
 use Rattle.walk.specs.Opening.{Opens}
 use Rattle.walk.specs.declared.Member.{Member}
 use Rattle.walk.proofs.EntryLaws.{meets, ranged, Reads}
 use Rattle.walk.proofs.RunLaws.{in-list, is-entry, real, reads}
 use Rattle.walk.proofs.BoxesLaws.{ranged-without}
-use Rattle.walk.proofs.OpenLaws.{boxes-ranged, things-set, fair-set, spread-next}
-use Rattle.walk.proofs.next_at.Statement.{statement}
-use Rattle.walk.proofs.next_at.Tie as tie
+use Rattle.walk.proofs.OpenLaws.{boxes-ranged, spread-next}
+use Rattle.walk.proofs.near_at.Statement.{statement}
+use Rattle.walk.proofs.near_at.Tie as tie
 
 abbrev places : tie.Start → Table
 places s = table (s .args .x .now) (s .args .y .now) (s .args .kit .now)
@@ -75,12 +75,6 @@ member-at-requires c κs =
     let q : Room (s .args .nodes) (s .args .listed) (lengths (over s)) = meets (s .pre .0) .counted .room in
     (r .small, (λ e. (r .place e .0, r .place e .1 .0), λ e. let n = r .node e in (omega (arith, q .level), (omega (arith, q .x-lo), (omega (arith, q .x-hi), (omega (arith, q .y-lo), omega (arith, q .y-hi)))))))
 
-mul-next : tie.Need-mul-next
-mul-next c = let s = begin (c .before) in omega (arith, opens s .inside, s .pre .1 .0 .most)
-
-array-set-from-next : tie.Need-array-set-from-next
-array-set-from-next c = let s = begin (c .before) in omega (arith, opens s .inside, s .pre .1 .0 .most)
-
 -- the member that stands for the entry
 is-member : (b : tie.After-member-at) → let s = begin (b .before) in b .member-at .result ≡ memberOf (places s) (over s) (entryOf s)
 is-member b =
@@ -102,16 +96,14 @@ returns : tie.Need-returns
 returns c =
     let b : tie.After-member-at = c .before .before in
     let s = begin (b .before) in
-    let is : set (s .args .cand) (s .args .o .top) (b .member-at .result) ≡ set (s .args .cand) (s .args .o .top) (memberOf (places s) (over s) (entryOf s)) = ap (set (s .args .cand) (s .args .o .top)) (is-member b) in
     let far : c .farthest-of .result ≡ max (s .args .o .rest) (farthest (boxOf (places s) (over s .sides) (entryOf s)) (take (s .args .m - 1) (s .args .o .others))) = c .farthest-of .ensures ∙ ap (λ (a : Member). max (s .args .o .rest) (farthest (a .at) (take (s .args .m - 1) (s .args .o .others)))) (is-member b) in
     record {
-      fair = subst (λ (d : List Member). Fair (places s) (over s) (wanted s) (take (s .args .m) d)) (sym is) (fair-set (s .pre .0) (wanted s) (s .args .m) (s .args .cand) (long s) (s .pre .1 .1 .0) (s .args .o .top) (entryOf s) (opens s .inside) (really s));
-      is = ap (λ (d : List Member). thingsOf (take (s .args .m) d)) is ∙ things-set (s .pre .0) (wanted s) (s .args .m) (s .args .cand) (long s) (s .pre .1 .1 .0) (s .args .o .top) (entryOf s) (opens s .inside) (really s);
-      spread = spread-next (s .pre .0) (wanted s) (s .args .m) (s .args .cand) (long s) (s .pre .1 .1 .0) (s .args .o .top) (entryOf s) (opens s .inside) (really s) (c .farthest-of .result) (s .args .o .rest) (take (s .args .m - 1) (s .args .o .others)) (opens s .others) (opens s .rest) far ∙ ap (λ (d : List Member). spread (boxesOf (take (s .args .m) d))) (sym is);
+      member = is-member b;
+      spread = spread-next (s .pre .0) (wanted s) (s .args .m) (s .args .cand) (long s) (s .pre .1 .1 .0) (s .args .o .top) (entryOf s) (opens s .inside) (really s) (c .farthest-of .result) (s .args .o .rest) (take (s .args .m - 1) (s .args .o .others)) (opens s .others) (opens s .rest) far ∙ ap (λ (a : Member). spread (boxesOf (take (s .args .m) (set (s .args .cand) (s .args .o .top) a)))) (sym (is-member b));
     }
 
-pub next-at-spec : {M : Type 1} → statement M
-next-at-spec =
+pub near-at-spec : {M : Type 1} → statement M
+near-at-spec =
     tie.close
     (tie.spec
     add-wide16
@@ -119,8 +111,6 @@ next-at-spec =
     shared-slice-read-wide16
     wide16-requires
     member-at-requires
-    mul-next
-    array-set-from-next
     sub-farthest-of
     farthest-of-requires
     returns)

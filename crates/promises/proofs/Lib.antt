@@ -1,2 +1,3 @@
 -- What is promised.
 pub mod Unique
+pub mod Starred

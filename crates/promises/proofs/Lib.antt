@@ -1,3 +1,8 @@
 -- What is promised.
+pub mod ReportLaws
+pub mod EndLaws
+pub mod ReadLaws
+pub mod PrintLaws
+pub mod Demands
 pub mod Unique
 pub mod Starred

@@ -1,18 +1,20 @@
 -- The three demands on the library, and what the program prints, over the definitions that the contracts cite.
 -- Assumes nothing.
-use mathlib.Core.Path.{_≡_, sym, ap, _∙_}
+use mathlib.Core.Path.{_≡_, refl, sym, ap, subst, _∙_}
+use mathlib.Core.Bool.{true}
 use mathlib.Core.List.{List, [], _∷_, List·Memᴰ}
 use mathlib.Core.Logic.{_↔_, _⊎_, inl, inr}
 use mathlib.Core.Option.{some}
 use Prim.Native.Nat.{ℕ, _+_, _*_, _≤_, _<_}
 use native.Mathlib.Omega.{arith}
 use lib.IntN.{ℤ}
-use lib.ListN.{length}
+use lib.ListN.{length, getD}
 use Rattle.plane.specs.Root.{Root}
 use Rattle.verdict.specs.Rules.{Rule, AllHold, verdict, says}
 use Rattle.verdict.specs.declared.Verdict.{Verdict}
 use Rattle.verdict.proofs.RuleLaws.{code-zero, none-broken, all-hold}
-use Rattle.kit.specs.Kit.{kinds, padded}
+use Rattle.kit.specs.Kit.{held, kinds, padded}
+use Rattle.kit.proofs.KindLaws.{kinds-member, kinds-ascending}
 use Rattle.table.specs.Table.{Table, places, Valid}
 use Rattle.tree.specs.Tree.{Tree}
 use Rattle.tree.specs.Rules.{checkRules}
@@ -27,19 +29,19 @@ use Rattle.search.specs.Search.{searchRules, refused, searched}
 use Rattle.search.specs.declared.Found.{Found}
 use Rattle.search.proofs.DemandLaws.{diameter-le, code-none}
 use Rattle.lines.specs.Part.{Outcome, accepted}
-use Rattle.sheet.specs.Sheet.{Held, sheetBytes, readSheet}
+use Rattle.sheet.specs.Sheet.{Held, Writable, sheetBytes, readSheet}
 use Rattle.sheet.specs.Write.{asked, writeRules}
 use Rattle.sheet.specs.Read.{reading, roomIn, sheetOf}
-use Rattle.sheet.specs.declared.Sheet.{Sheet}
 use Rattle.sheet.proofs.SizeLaws.{bytes-enough}
 use Rattle.answer.specs.Distance.{rootOf}
 use Rattle.answer.proofs.RootLaws.{root-of}
 use Rattle.reply.specs.Reply.{printed}
 use Rattle.promises.specs.Reports.{Reports, codesOf}
-use Rattle.promises.specs.Answers.{Closest, NoGroup, stepsOf, knownAfter, found, spent, Ends}
+use Rattle.promises.specs.Answers.{between, Closest, NoGroup, stepsOf, knownAfter, spent, Ends}
 use Rattle.promises.specs.Sheets.{IsSheet, ReadsAs, noSheet, noRoom, aSheet}
-use Rattle.promises.specs.Prints.{Prints}
+use Rattle.promises.specs.Prints.{Answers, Prints, tooLong, notRead, wasRead}
 use Rattle.promises.proofs.ReportLaws.{reports, reports-only, codes}
+use Rattle.promises.proofs.DiameterLaws.{diameter-above, diameter-least}
 use Rattle.promises.proofs.EndLaws.{of-closest, ends, Ended, ended, of-ended, fault, all-codes, when-found, when-none, when-spent, spent-when}
 use Rattle.promises.proofs.ReadLaws.{is-sheet, sheet-is, reads-as, short-buffer, buffer-short}
 use Rattle.promises.proofs.PrintLaws.{prints}
@@ -113,6 +115,21 @@ module _ (s : List ℕ) (x y : List ℤ) (kit : List ℕ) where
 
 -- ==== Demand 2: a group found is the answer, which is defined over the table alone; a sheet is what it says
 
+-- the kinds of a want are those whose bit is set, in ascending order
+pub wanted-kinds : (want k : ℕ) → List·Memᴰ k (kinds want) ↔ ((k < 64) × (held want k ≡ true))
+wanted-kinds = kinds-member
+
+pub wanted-ascend : (want i j : ℕ) → i < j → j < length (kinds want) → getD (kinds want) i 0 < getD (kinds want) j 0
+wanted-ascend = kinds-ascending
+
+-- a group's squared diameter is the largest squared distance of any two of its members: none is above it, and no less number has that
+module _ (t : Table) (g : List ℕ) where
+  pub diameter-most : (i j : ℕ) → i < length g → j < length g → between t (getD g i 0) (getD g j 0) ≤ diameter t g
+  diameter-most = diameter-above t g
+
+  pub diameter-tight : (d : ℕ) → ((i j : ℕ) → i < length g → j < length g → between t (getD g i 0) (getD g j 0) ≤ d) → diameter t g ≤ d
+  diameter-tight d = diameter-least t d g
+
 module _ (t : Table) (want : ℕ) where
   -- there is at most one answer
   pub closest-one : {g o : List ℕ} → Closest t want g → Closest t want o → g ≡ o
@@ -141,6 +158,10 @@ module _ (t : Table) (tree : Tree) (want allowance : ℕ) where
 -- bytes are accepted exactly where they are the sheet that is written for what they hold: what is written reads back the same, and what is accepted is written back byte for byte
 pub sheet-exactly : (s : List ℕ) (h : Held) → (readSheet s ≡ accepted h) ↔ IsSheet s h
 sheet-exactly s h = (is-sheet s h, sheet-is s h)
+
+-- so a sheet holds one thing
+pub sheet-one : (s : List ℕ) (h o : Held) → IsSheet s h → IsSheet s o → h ≡ o
+sheet-one s h o i j = let e : accepted h ≡ accepted o = sym (sheet-is s h i) ∙ sheet-is s o j in cc
 
 -- a valid table of p places has a sheet of at most 70 + 54 p bytes
 pub sheet-size : (t : Table) (want budget : ℕ) → Valid t → budget ≤ 4294967295 → length (sheetBytes (asked t want budget)) ≤ 70 + 54 * places t
@@ -202,3 +223,15 @@ module _ (t : Table) (tree tree′ : Tree) (want allowance allowance′ : ℕ) w
 -- for every input: 55 where it is too long, the sheet's fault where it is no sheet, else the answer of demand 2 for the sheet's table, want and budget
 pub program-prints : (s : List ℕ) → Prints s (printed s)
 program-prints = prints
+
+-- so for the sheet of a valid table, want and budget
+pub program-answers : (h : Held) → Writable h → length (sheetBytes h) ≤ 65536 → Answers h (printed (sheetBytes h))
+program-answers h w l = go (program-prints (sheetBytes h))
+  where
+    is : IsSheet (sheetBytes h) h
+    is = record { writable = w; bytes = refl }
+
+    go : Prints (sheetBytes h) (printed (sheetBytes h)) → Answers h (printed (sheetBytes h))
+    go (tooLong m _) = absurd (omega arith)
+    go (notRead _ _ _ n _ _) = absurd (n h is)
+    go (wasRead o _ i a) = subst (λ (o : Held). Answers o (printed (sheetBytes h))) (sheet-one (sheetBytes h) o h i is) a

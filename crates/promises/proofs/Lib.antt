@@ -1,5 +1,6 @@
 -- What is promised.
 pub mod ReportLaws
+pub mod DiameterLaws
 pub mod EndLaws
 pub mod ReadLaws
 pub mod PrintLaws

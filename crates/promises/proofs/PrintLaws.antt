@@ -3,7 +3,7 @@
 use mathlib.Core.Path.{_≡_, refl, sym, ap, subst, _∙_}
 use mathlib.Core.List.{List, [], _∷_, _++_}
 use mathlib.Core.Option.{Option, none, some}
-use Prim.Native.Nat.{ℕ, suc, _-_, _≤_, _<_}
+use Prim.Native.Nat.{ℕ, _-_, _≤_, _<_}
 use native.Mathlib.Decide.{decLe, ℕ-discrete}
 use native.Mathlib.Omega.{arith}
 use lib.ListN.{length, replicate}
@@ -27,7 +27,7 @@ use Rattle.reply.specs.Reply.{printedFor, printed}
 use Rattle.reply.proofs.ReplyLaws.{printed-long, printed-sheet}
 use Rattle.reply.proofs.BuiltLaws.{built-sound}
 use Rattle.promises.specs.Answers.{spent, found, Ends, isNone, isSpent, isFound, knownAfter, stepsOf}
-use Rattle.promises.specs.Prints.{Answers, noKind, manyKinds, printsNone, printsSpent, printsFound, Prints, tooLong, noSheet, aSheet}
+use Rattle.promises.specs.Prints.{Answers, noKind, manyKinds, printsNone, printsSpent, printsFound, Prints, tooLong, notRead, wasRead}
 use Rattle.promises.proofs.EndLaws.{ends}
 use Rattle.promises.proofs.ReadLaws.{is-sheet, no-sheet}
 
@@ -96,7 +96,7 @@ prints s = go (decLe (length s) 65536) (readSheet s) refl
     go (no n) o e = let l : 65536 < length s = omega arith in tooLong l (sym (printed-long s l) ∙ refused-lines 55 0 0 (λ e. absurd (omega arith)) (λ e. absurd (omega arith)) (λ e. absurd (omega arith)))
     go (yes l) (fault c at) e =
         let b = sheet-codes s c at e in
-        noSheet c at l (no-sheet s c at e) e (sym (printed-sheet s l) ∙ ap (λ (o : Outcome Held). printedFor o) e ∙ refused-lines c at 0 (λ z. absurd (omega (arith, b .0))) (λ z. absurd (omega (arith, b .0))) (λ z. absurd (omega (arith, b .0))))
+        notRead c at l (no-sheet s c at e) e (sym (printed-sheet s l) ∙ ap (λ (o : Outcome Held). printedFor o) e ∙ refused-lines c at 0 (λ z. absurd (omega (arith, b .0))) (λ z. absurd (omega (arith, b .0))) (λ z. absurd (omega (arith, b .0))))
     go (yes l) (accepted h) e =
         let i = is-sheet s h e in
-        aSheet h l i (subst (Answers h) (sym (ap (λ (o : Outcome Held). printedFor o) e) ∙ printed-sheet s l) (answers h (i .writable .valid)))
+        wasRead h l i (subst (Answers h) (sym (ap (λ (o : Outcome Held). printedFor o) e) ∙ printed-sheet s l) (answers h (i .writable .valid)))

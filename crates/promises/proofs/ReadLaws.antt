@@ -1,12 +1,12 @@
 -- How reading ends, and when the writer's buffer is too short.
 -- Assumes nothing.
 use mathlib.Core.Path.{_≡_, refl, sym, ap, _∙_}
-use mathlib.Core.List.{List, [], _∷_, List·Memᴰ}
+use mathlib.Core.List.{List, [], _∷_}
 use Prim.Native.Nat.{ℕ, _≤_, _<_}
 use native.Mathlib.Decide.{decLe, ℕ-discrete}
 use native.Mathlib.Omega.{arith}
 use lib.ListN.{length}
-use Rattle.verdict.specs.Rules.{AllHold, verdict, says}
+use Rattle.verdict.specs.Rules.{verdict, says}
 use Rattle.verdict.specs.declared.Verdict.{Verdict}
 use Rattle.verdict.proofs.RuleLaws.{none-broken, stops, goes-on}
 use Rattle.table.specs.Table.{places, tableRules, Valid}

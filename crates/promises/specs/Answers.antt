@@ -5,7 +5,9 @@ use mathlib.Core.Bool.{true, false}
 use mathlib.Core.List.{List, []}
 use mathlib.Core.Option.{Option, none, some}
 use Prim.Native.Nat.{ℕ, _≤_, _<_}
-use lib.ListN.{length, take, replicate}
+use lib.IntN.{pos}
+use lib.ListN.{length, getD, take, replicate}
+use Rattle.plane.specs.Plane.{squaredOf}
 use Rattle.kit.specs.Kit.{kinds, padded}
 use Rattle.table.specs.Table.{Table}
 use Rattle.tree.specs.Tree.{Tree}
@@ -15,6 +17,10 @@ use Rattle.closest.specs.Group.{Covers, diameter}
 use Rattle.closest.specs.Walk.{wholeWalk, begins}
 use Rattle.search.specs.Search.{refused}
 use Rattle.search.specs.declared.Found.{Found}
+
+-- the squared distance of two places
+abbrev pub between : Table → ℕ → ℕ → ℕ
+between t p q = squaredOf (getD (t .x) p (pos 0)) (getD (t .y) p (pos 0)) (getD (t .x) q (pos 0)) (getD (t .y) q (pos 0))
 
 -- g is the answer: a group for the want, no group has a less squared diameter, and of those with the same none is earlier in dictionary order
 pub record Closest (t : Table) (want : ℕ) (g : List ℕ) : Type 0 where

@@ -29,5 +29,5 @@ pub data Answers (h : Held) (p : List ℕ) : Type 0 where
 -- for any bytes
 pub data Prints (s p : List ℕ) : Type 0 where
   tooLong : 65536 < length s → p ≡ refusedLines 55 0 → Prints s p
-  noSheet : (code line : ℕ) → length s ≤ 65536 → NoSheet s → readSheet s ≡ fault code line → p ≡ refusedLines code line → Prints s p
-  aSheet : (h : Held) → length s ≤ 65536 → IsSheet s h → Answers h p → Prints s p
+  notRead : (code line : ℕ) → length s ≤ 65536 → NoSheet s → readSheet s ≡ fault code line → p ≡ refusedLines code line → Prints s p
+  wasRead : (h : Held) → length s ≤ 65536 → IsSheet s h → Answers h p → Prints s p

@@ -6,4 +6,5 @@ pub mod ReadLaws
 pub mod PrintLaws
 pub mod Demands
 pub mod Unique
+pub mod UniqueWithin
 pub mod Starred

@@ -7,4 +7,5 @@ pub mod PrintLaws
 pub mod Demands
 pub mod Unique
 pub mod UniqueWithin
+pub mod UniqueReader
 pub mod Starred

@@ -1,0 +1,5 @@
+-- What the promises are stated with.
+pub mod Reports
+pub mod Answers
+pub mod Sheets
+pub mod Prints

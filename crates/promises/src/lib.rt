@@ -1,0 +1,1 @@
+// Statements only: what is promised, over the definitions and the contracts of the crates below.

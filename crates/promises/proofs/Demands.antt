@@ -23,7 +23,7 @@ use Rattle.tree.proofs.TreeLaws.{Meets, meets-of, of-meets}
 use Rattle.build.specs.Built.{built}
 use Rattle.build.specs.Room.{buildRules, writtenOver}
 use Rattle.build.proofs.PassLaws.{built-verdict}
-use Rattle.closest.specs.Group.{diameter}
+use Rattle.closest.specs.Group.{Covers, diameter}
 use Rattle.closest.proofs.AnswerLaws.{answer-unique}
 use Rattle.search.specs.Search.{searchRules, refused, searched}
 use Rattle.search.specs.declared.Found.{Found}
@@ -37,14 +37,14 @@ use Rattle.answer.specs.Distance.{rootOf}
 use Rattle.answer.proofs.RootLaws.{root-of}
 use Rattle.reply.specs.Reply.{printed}
 use Rattle.promises.specs.Reports.{Reports, codesOf}
-use Rattle.promises.specs.Answers.{between, Closest, NoGroup, stepsOf, knownAfter, spent, Ends}
+use Rattle.promises.specs.Answers.{between, Closest, NoGroup, stepsOf, knownAfter, spent, Ended, Ends, isNone, isSpent, isFound}
 use Rattle.promises.specs.Sheets.{IsSheet, ReadsAs, noSheet, noRoom, aSheet}
 use Rattle.promises.specs.Prints.{Answers, Prints, tooLong, notRead, wasRead}
 use Rattle.promises.proofs.ReportLaws.{reports, reports-only, codes}
 use Rattle.promises.proofs.DiameterLaws.{diameter-above, diameter-least}
-use Rattle.promises.proofs.EndLaws.{of-closest, ends, Ended, ended, of-ended, fault, all-codes, when-found, when-none, when-spent, spent-when}
+use Rattle.promises.proofs.EndLaws.{of-closest, ends, ended, of-ended, fault, all-codes, when-found, when-none, when-spent, spent-when}
 use Rattle.promises.proofs.ReadLaws.{is-sheet, sheet-is, reads-as, short-buffer, buffer-short}
-use Rattle.promises.proofs.PrintLaws.{prints}
+use Rattle.promises.proofs.PrintLaws.{our-tree, prints}
 
 -- ==== Demand 1: each refusal exactly when stated
 
@@ -88,7 +88,7 @@ module _ (h : Held) (room : ℕ) where
 
 -- the search is found, none or spent exactly where every rule of want, table and tree holds; else it reports the broken rule; 33 is never met
 module _ (t : Table) (tree : Tree) (want allowance : ℕ) where
-  pub search-passes : Ended t tree want allowance ↔ AllHold (searchRules t tree want)
+  pub search-passes : Ended (searched t tree want allowance .code) ↔ AllHold (searchRules t tree want)
   search-passes = (of-ended t tree want allowance, ended t tree want allowance)
 
   pub search-refusal : let v = verdict (searchRules t tree want) in (v .code ≡ 0 → ⊥) → searched t tree want allowance ≡ refused (v .code) (v .at)
@@ -134,6 +134,15 @@ module _ (t : Table) (want : ℕ) where
   -- there is at most one answer
   pub closest-one : {g o : List ℕ} → Closest t want g → Closest t want o → g ≡ o
   closest-one {g} {o} c d = let e : some g ≡ some o = answer-unique t (kinds want) (some g) (some o) (of-closest c) (of-closest d) in cc
+
+  -- and where there is a group there is an answer
+  pub closest-is : {o : List ℕ} → Valid t → 1 ≤ length (kinds want) → length (kinds want) ≤ 8 → Covers t (kinds want) o → (g : List ℕ) × Closest t want g
+  closest-is {o} v one few c = go (ends t (built t) want (stepsOf t (built t) want) (our-tree t want v one few))
+    where
+      go : Ends t (built t) want (stepsOf t (built t) want) (searched t (built t) want (stepsOf t (built t) want)) → (g : List ℕ) × Closest t want g
+      go (isNone n _ _) = absurd (n o c)
+      go (isSpent l _) = absurd (omega arith)
+      go (isFound g a _ _) = (g, a)
 
   -- the distance shown for it is the greatest whole number whose square is not above its squared diameter
   pub distance-shown : {g : List ℕ} → Valid t → Closest t want g → Root (diameter t g) (rootOf (diameter t g))

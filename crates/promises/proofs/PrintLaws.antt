@@ -65,7 +65,7 @@ many-kinds t tree want allowance e =
     (λ e. absurd (omega arith)))
 
 -- no rule refuses our tree
-our-tree : (t : Table) (want : ℕ) → Valid t → 1 ≤ length (kinds want) → length (kinds want) ≤ 8 → AllHold (searchRules t (built t) want)
+pub our-tree : (t : Table) (want : ℕ) → Valid t → 1 ≤ length (kinds want) → length (kinds want) ≤ 8 → AllHold (searchRules t (built t) want)
 our-tree t want v one few = (λ _ _ _. one, (λ _ _ _. few, (v .0, (v .1 .0, built-sound t v .passes))))
 
 -- the answer to a sheet

@@ -4,7 +4,6 @@ use mathlib.Core.Path.{_≡_, refl, sym, ap, subst, _∙_}
 use mathlib.Core.Bool.{true}
 use mathlib.Core.List.{List, [], _∷_, List·Memᴰ}
 use mathlib.Core.Logic.{_↔_, _⊎_, inl, inr}
-use mathlib.Core.Option.{some}
 use Prim.Native.Nat.{ℕ, _+_, _*_, _≤_, _<_}
 use native.Mathlib.Omega.{arith}
 use lib.IntN.{ℤ}
@@ -23,8 +22,7 @@ use Rattle.tree.proofs.TreeLaws.{Meets, meets-of, of-meets}
 use Rattle.build.specs.Built.{built}
 use Rattle.build.specs.Room.{buildRules, writtenOver}
 use Rattle.build.proofs.PassLaws.{built-verdict}
-use Rattle.closest.specs.Group.{diameter}
-use Rattle.closest.proofs.AnswerLaws.{answer-unique}
+use Rattle.closest.specs.Group.{Covers, diameter}
 use Rattle.search.specs.Search.{searchRules, refused, searched}
 use Rattle.search.specs.declared.Found.{Found}
 use Rattle.search.proofs.DemandLaws.{diameter-le, code-none}
@@ -37,14 +35,15 @@ use Rattle.answer.specs.Distance.{rootOf}
 use Rattle.answer.proofs.RootLaws.{root-of}
 use Rattle.reply.specs.Reply.{printed}
 use Rattle.promises.specs.Reports.{Reports, codesOf}
-use Rattle.promises.specs.Answers.{between, Closest, NoGroup, stepsOf, knownAfter, spent, Ends}
+use Rattle.promises.specs.Answers.{between, Closest, NoGroup, stepsOf, knownAfter, spent, Ended, Ends, isNone, isSpent, isFound}
 use Rattle.promises.specs.Sheets.{IsSheet, ReadsAs, noSheet, noRoom, aSheet}
 use Rattle.promises.specs.Prints.{Answers, Prints, tooLong, notRead, wasRead}
 use Rattle.promises.proofs.ReportLaws.{reports, reports-only, codes}
 use Rattle.promises.proofs.DiameterLaws.{diameter-above, diameter-least}
-use Rattle.promises.proofs.EndLaws.{of-closest, ends, Ended, ended, of-ended, fault, all-codes, when-found, when-none, when-spent, spent-when}
+use Rattle.promises.proofs.EndLaws.{ends, ended, of-ended, fault, all-codes, when-found, when-none, when-spent, spent-when}
 use Rattle.promises.proofs.ReadLaws.{is-sheet, sheet-is, reads-as, short-buffer, buffer-short}
-use Rattle.promises.proofs.PrintLaws.{prints}
+use Rattle.promises.proofs.PrintLaws.{our-tree, prints}
+use Rattle.promises.proofs.OneLaws.{one-closest, one-held, one-end, one-reading, one-print}
 
 -- ==== Demand 1: each refusal exactly when stated
 
@@ -88,7 +87,7 @@ module _ (h : Held) (room : ℕ) where
 
 -- the search is found, none or spent exactly where every rule of want, table and tree holds; else it reports the broken rule; 33 is never met
 module _ (t : Table) (tree : Tree) (want allowance : ℕ) where
-  pub search-passes : Ended t tree want allowance ↔ AllHold (searchRules t tree want)
+  pub search-passes : Ended (searched t tree want allowance .code) ↔ AllHold (searchRules t tree want)
   search-passes = (of-ended t tree want allowance, ended t tree want allowance)
 
   pub search-refusal : let v = verdict (searchRules t tree want) in (v .code ≡ 0 → ⊥) → searched t tree want allowance ≡ refused (v .code) (v .at)
@@ -101,6 +100,9 @@ module _ (t : Table) (tree : Tree) (want allowance : ℕ) where
 module _ (s : List ℕ) (x y : List ℤ) (kit : List ℕ) where
   pub read-ends : ReadsAs s (roomIn x y kit) (reading s x y kit)
   read-ends = reads-as s (roomIn x y kit)
+
+  pub read-one : {o : Outcome Held} → ReadsAs s (roomIn x y kit) o → o ≡ reading s x y kit
+  read-one e = one-reading s (roomIn x y kit) _ _ e read-ends
 
   pub read-codes : let c = sheetOf (reading s x y kit) .code in (c ≡ 0) ⊎ ((51 ≤ c) × (c ≤ 54))
   read-codes = go read-ends
@@ -133,7 +135,16 @@ module _ (t : Table) (g : List ℕ) where
 module _ (t : Table) (want : ℕ) where
   -- there is at most one answer
   pub closest-one : {g o : List ℕ} → Closest t want g → Closest t want o → g ≡ o
-  closest-one {g} {o} c d = let e : some g ≡ some o = answer-unique t (kinds want) (some g) (some o) (of-closest c) (of-closest d) in cc
+  closest-one = one-closest t want
+
+  -- and where there is a group there is an answer
+  pub closest-is : {o : List ℕ} → Valid t → 1 ≤ length (kinds want) → length (kinds want) ≤ 8 → Covers t (kinds want) o → (g : List ℕ) × Closest t want g
+  closest-is {o} v one few c = go (ends t (built t) want (stepsOf t (built t) want) (our-tree t want v one few))
+    where
+      go : Ends t (built t) want (stepsOf t (built t) want) (searched t (built t) want (stepsOf t (built t) want)) → (g : List ℕ) × Closest t want g
+      go (isNone n _ _) = absurd (n o c)
+      go (isSpent l _) = absurd (omega arith)
+      go (isFound g a _ _) = (g, a)
 
   -- the distance shown for it is the greatest whole number whose square is not above its squared diameter
   pub distance-shown : {g : List ℕ} → Valid t → Closest t want g → Root (diameter t g) (rootOf (diameter t g))
@@ -161,7 +172,7 @@ sheet-exactly s h = (is-sheet s h, sheet-is s h)
 
 -- so a sheet holds one thing
 pub sheet-one : (s : List ℕ) (h o : Held) → IsSheet s h → IsSheet s o → h ≡ o
-sheet-one s h o i j = let e : accepted h ≡ accepted o = sym (sheet-is s h i) ∙ sheet-is s o j in cc
+sheet-one = one-held
 
 -- a valid table of p places has a sheet of at most 70 + 54 p bytes
 pub sheet-size : (t : Table) (want budget : ℕ) → Valid t → budget ≤ 4294967295 → length (sheetBytes (asked t want budget)) ≤ 70 + 54 * places t
@@ -187,6 +198,10 @@ module _ (t : Table) (tree : Tree) (want allowance : ℕ) where
   -- over any tree that passes, the search ends in one of three ways: none, spent with what the walk knows after as many steps as the allowance has, or the answer
   pub search-ends : AllHold (searchRules t tree want) → Ends t tree want allowance q
   search-ends = ends t tree want allowance
+
+  -- and the way in which it ends says all of its answer
+  pub search-one : AllHold (searchRules t tree want) → {o : Found} → Ends t tree want allowance o → o ≡ q
+  search-one h e = one-end t tree want allowance _ _ e (search-ends h)
 
   -- a group found comes with the steps of the defined walk, which are within the allowance
   pub found-steps : q .code ≡ 0 → (q .steps ≡ stepsOf t tree want) × (stepsOf t tree want ≤ allowance)
@@ -223,6 +238,10 @@ module _ (t : Table) (tree tree′ : Tree) (want allowance allowance′ : ℕ) w
 -- for every input: 55 where it is too long, the sheet's fault where it is no sheet, else the answer of demand 2 for the sheet's table, want and budget
 pub program-prints : (s : List ℕ) → Prints s (printed s)
 program-prints = prints
+
+-- and that says all that it prints
+pub program-one : (s : List ℕ) {p : List ℕ} → Prints s p → p ≡ printed s
+program-one s e = one-print s _ _ e (prints s)
 
 -- so for the sheet of a valid table, want and budget
 pub program-answers : (h : Held) → Writable h → length (sheetBytes h) ≤ 65536 → Answers h (printed (sheetBytes h))

@@ -3,7 +3,7 @@
 use mathlib.Core.Path.{_≡_, refl, sym, ap, _∙_}
 use mathlib.Core.Bool.{Bool, true, false}
 use mathlib.Core.List.{List, [], _∷_, _++_, Memᴰ·cast, List·Memᴰ, List·Memᴰ·head, List·Memᴰ·tail}
-use mathlib.Core.Logic.{_⊎_, inl, inr}
+use mathlib.Core.Logic.{inl, inr}
 use mathlib.Core.Option.{Option, none, some}
 use Prim.Native.Nat.{ℕ, _≤_, _<_}
 use native.Mathlib.Decide.{decLt, ℕ-discrete}
@@ -29,7 +29,7 @@ use Rattle.search.proofs.SearchLaws.{sound-of, searched-fault}
 use Rattle.search.proofs.DemandLaws.{gives-none, gives-spent, gives-found}
 use Rattle.search.specs.declared.Found.{Found}
 use Rattle.promises.specs.Reports.{codesOf}
-use Rattle.promises.specs.Answers.{Closest, NoGroup, walkOf, stepsOf, knownAfter, spent, found, Ends, isNone, isSpent, isFound}
+use Rattle.promises.specs.Answers.{Closest, NoGroup, walkOf, stepsOf, knownAfter, spent, found, Ended, Ends, isNone, isSpent, isFound}
 use Rattle.promises.proofs.ReportLaws.{codes, member-le, member-more, member-after}
 
 -- the answer, spelt out
@@ -97,14 +97,10 @@ module _ (t : Table) (tree : Tree) (want allowance : ℕ) where
           let f = gives-found t tree want allowance h b (omega (arith, w)) in
           isFound (f .0) (closest-of (f .1 .0)) (omega arith) (sym (f .1 .1) ∙ ap (λ (k : ℕ). found t (f .0) k) w)
 
-  -- found, none or spent
-  abbrev pub Ended : Type 0
-  Ended = (r .code ≡ 0) ⊎ ((r .code ≡ 31) ⊎ (r .code ≡ 32))
-
-  pub ended : AllHold (searchRules t tree want) → Ended
+  pub ended : AllHold (searchRules t tree want) → Ended (r .code)
   ended h = by (ends h)
     where
-      by : Ends t tree want allowance r → Ended
+      by : Ends t tree want allowance r → Ended (r .code)
       by (isNone _ _ e) = inr (inl (code e))
       by (isSpent _ e) = inr (inr (code e ∙ spent-code t (knownAfter t tree want allowance) allowance))
       by (isFound _ _ _ e) = inl (code e)
@@ -124,10 +120,10 @@ module _ (t : Table) (tree : Tree) (want allowance : ℕ) where
   fault n = sym (searched-fault t tree want allowance refl n)
 
   -- so it ends in none of them where a rule is broken
-  pub of-ended : Ended → AllHold (searchRules t tree want)
+  pub of-ended : Ended (r .code) → AllHold (searchRules t tree want)
   of-ended = go (ℕ-discrete (v .code) 0)
     where
-      go : Dec (v .code ≡ 0) → Ended → AllHold (searchRules t tree want)
+      go : Dec (v .code ≡ 0) → Ended (r .code) → AllHold (searchRules t tree want)
       go (yes z) e = none-broken (searchRules t tree want) z
       go (no n) (inl e) = absurd (omega (arith, code (fault n)))
       go (no n) (inr (inl e)) = absurd (omega (arith, small, code (fault n)))
@@ -137,7 +133,7 @@ module _ (t : Table) (tree : Tree) (want allowance : ℕ) where
   pub all-codes : List·Memᴰ (r .code) (known ++ 31 ∷ 32 ∷ [])
   all-codes = go (ℕ-discrete (v .code) 0)
     where
-      by : Ended → List·Memᴰ (r .code) (known ++ 31 ∷ 32 ∷ [])
+      by : Ended (r .code) → List·Memᴰ (r .code) (known ++ 31 ∷ 32 ∷ [])
       by (inl e) = List·Memᴰ·head e
       by (inr (inl e)) = member-after known (List·Memᴰ·head e)
       by (inr (inr e)) = member-after known (List·Memᴰ·tail (List·Memᴰ·head e))

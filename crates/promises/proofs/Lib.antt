@@ -4,6 +4,7 @@ pub mod DiameterLaws
 pub mod EndLaws
 pub mod ReadLaws
 pub mod PrintLaws
+pub mod OneLaws
 pub mod Demands
 pub mod Unique
 pub mod UniqueWithin

@@ -27,7 +27,7 @@ use Rattle.reply.specs.Reply.{printedFor, printed}
 use Rattle.reply.proofs.ReplyLaws.{printed-long, printed-sheet}
 use Rattle.reply.proofs.BuiltLaws.{built-sound}
 use Rattle.promises.specs.Answers.{spent, found, Ends, isNone, isSpent, isFound, knownAfter, stepsOf}
-use Rattle.promises.specs.Prints.{Answers, noKind, manyKinds, printsNone, printsSpent, printsFound, Prints, tooLong, notRead, wasRead}
+use Rattle.promises.specs.Prints.{FewKinds, Answers, noKind, manyKinds, printsNone, printsSpent, printsFound, Prints, tooLong, notRead, wasRead}
 use Rattle.promises.proofs.EndLaws.{ends}
 use Rattle.promises.proofs.ReadLaws.{is-sheet, no-sheet}
 
@@ -43,15 +43,18 @@ group-only [] (p ∷ g) rest e = absurd (omega arith)
 group-only (k ∷ ks) [] rest e = absurd (omega arith)
 group-only (k ∷ ks) (p ∷ g) rest e = ap (λ (l : List ℕ). needLines k p ++ l) (group-only ks g rest (omega arith))
 
-found-lines : (t : Table) (g : List ℕ) (steps want : ℕ) → length g ≡ length (kinds want) → answerLines (found t g steps) want ≡ foundLines (diameter t g) steps (kinds want) g
+pub found-lines : (t : Table) (g : List ℕ) (steps want : ℕ) → length g ≡ length (kinds want) → answerLines (found t g steps) want ≡ foundLines (diameter t g) steps (kinds want) g
 unfolding foundLines padded
 found-lines t g steps want e =
     sym (of-found (found t g steps) want refl)
     ∙ ap (λ (l : List ℕ). wordLine "answer=" (ascii "found") ++ (measureLines (diameter t g) steps ++ (l ++ endLine))) (group-only (kinds want) g (replicate (8 - length g) 0) e)
 
-spent-lines : (t : Table) (k : Option (List ℕ)) (steps want : ℕ) → answerLines (spent t k steps) want ≡ stoppedLines (ascii "spent") steps
+pub spent-lines : (t : Table) (k : Option (List ℕ)) (steps want : ℕ) → answerLines (spent t k steps) want ≡ stoppedLines (ascii "spent") steps
 spent-lines t none steps want = sym (of-spent (spent t none steps) want (λ e. absurd (omega arith)) (λ e. absurd (omega arith)) refl)
 spent-lines t (some g) steps want = sym (of-spent (spent t (some g) steps) want (λ e. absurd (omega arith)) (λ e. absurd (omega arith)) refl)
+
+pub none-lines : (want : ℕ) → answerLines (refused 31 0) want ≡ stoppedLines (ascii "none") 0
+none-lines want = sym (of-none (refused 31 0) want (λ e. absurd (omega arith)) refl)
 
 -- a want of no kind, or of more than eight
 no-kinds : (t : Table) (tree : Tree) (want allowance : ℕ) → length (kinds want) ≡ 0 → searched t tree want allowance ≡ refused 1 0
@@ -65,7 +68,7 @@ many-kinds t tree want allowance e =
     (λ e. absurd (omega arith)))
 
 -- no rule refuses our tree
-our-tree : (t : Table) (want : ℕ) → Valid t → 1 ≤ length (kinds want) → length (kinds want) ≤ 8 → AllHold (searchRules t (built t) want)
+pub our-tree : (t : Table) (want : ℕ) → Valid t → 1 ≤ length (kinds want) → length (kinds want) ≤ 8 → AllHold (searchRules t (built t) want)
 our-tree t want v one few = (λ _ _ _. one, (λ _ _ _. few, (v .0, (v .1 .0, built-sound t v .passes))))
 
 -- the answer to a sheet
@@ -78,15 +81,15 @@ answers h v = go (ℕ-discrete (length (kinds (h .want))) 0) (decLe (length (kin
     lines : {f : Found} → r ≡ f → answerLines r (h .want) ≡ answerLines f (h .want)
     lines e = ap (λ (f : Found). answerLines f (h .want)) e
 
-    by : Ends (h .table) (built (h .table)) (h .want) (h .budget) r → Answers h (answerLines r (h .want))
-    by (isNone n _ e) = printsNone n (lines e ∙ sym (of-none (refused 31 0) (h .want) (λ e. absurd (omega arith)) refl))
-    by (isSpent l e) = printsSpent l (lines e ∙ spent-lines (h .table) (knownAfter (h .table) (built (h .table)) (h .want) (h .budget)) (h .budget) (h .want))
-    by (isFound g c l e) = printsFound g c l (lines e ∙ found-lines (h .table) g (stepsOf (h .table) (built (h .table)) (h .want)) (h .want) (c .covers .size))
+    by : FewKinds h → Ends (h .table) (built (h .table)) (h .want) (h .budget) r → Answers h (answerLines r (h .want))
+    by k (isNone n z e) = printsNone k n z (lines e ∙ none-lines (h .want))
+    by k (isSpent l e) = printsSpent k l (lines e ∙ spent-lines (h .table) (knownAfter (h .table) (built (h .table)) (h .want) (h .budget)) (h .budget) (h .want))
+    by k (isFound g c l e) = printsFound k g c l (lines e ∙ found-lines (h .table) g (stepsOf (h .table) (built (h .table)) (h .want)) (h .want) (c .covers .size))
 
     go : Dec (length (kinds (h .want)) ≡ 0) → Dec (length (kinds (h .want)) ≤ 8) → Answers h (answerLines r (h .want))
     go (yes z) d = noKind z (lines (no-kinds (h .table) (built (h .table)) (h .want) (h .budget) z) ∙ refused-lines 1 0 (h .want) (λ e. absurd (omega arith)) (λ e. absurd (omega arith)) (λ e. absurd (omega arith)))
     go (no n) (no m) = let l : 8 < length (kinds (h .want)) = omega arith in manyKinds l (lines (many-kinds (h .table) (built (h .table)) (h .want) (h .budget) l) ∙ refused-lines 2 0 (h .want) (λ e. absurd (omega arith)) (λ e. absurd (omega arith)) (λ e. absurd (omega arith)))
-    go (no n) (yes few) = by (ends (h .table) (built (h .table)) (h .want) (h .budget) (our-tree (h .table) (h .want) v (omega arith) few))
+    go (no n) (yes few) = by (record { one = omega arith; few = few }) (ends (h .table) (built (h .table)) (h .want) (h .budget) (our-tree (h .table) (h .want) v (omega arith) few))
 
 -- what is printed for any bytes
 pub prints : (s : List ℕ) → Prints s (printed s)

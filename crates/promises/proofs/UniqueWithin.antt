@@ -44,7 +44,7 @@ use Rattle.print.proofs.put_bits_line.Reads as put-bits-line
 use Rattle.print.proofs.put_signed_line.Reads as put-signed-line
 use Rattle.print.proofs.width_of.Reads as width-of
 use Rattle.print.proofs.signed_width_of.Reads as signed-width-of
-use Rattle.promises.proofs.Unique.{Settles, nothing}
+use Rattle.promises.specs.Settles.{Settles, nothing}
 
 -- a decision is one answer
 decides-one : {P : Type 0} {r r′ : Bool} → Decides r P → Decides r′ P → r ≡ r′

@@ -3,6 +3,7 @@
 use mathlib.Core.Path.{_≡_}
 use mathlib.Core.Bool.{true, false}
 use mathlib.Core.List.{List, []}
+use mathlib.Core.Logic.{_⊎_}
 use mathlib.Core.Option.{Option, none, some}
 use Prim.Native.Nat.{ℕ, _≤_, _<_}
 use lib.IntN.{pos}
@@ -51,6 +52,10 @@ found t g steps = record { code = 0; at = 0; places = padded g; squared = diamet
 abbrev pub spent : Table → Option (List ℕ) → ℕ → Found
 spent t none steps = record { code = 32; at = 0; places = replicate 8 0; squared = 0; steps = steps; known = false }
 spent t (some g) steps = record { code = 32; at = 0; places = padded g; squared = diameter t g; steps = steps; known = true }
+
+-- 'found', 'none' or 'spent', by the number
+abbrev pub Ended : ℕ → Type 0
+Ended code = (code ≡ 0) ⊎ ((code ≡ 31) ⊎ (code ≡ 32))
 
 -- the three ways in which a search ends that is not refused
 pub data Ends (t : Table) (tree : Tree) (want allowance : ℕ) (r : Found) : Type 0 where

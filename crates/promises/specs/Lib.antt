@@ -3,3 +3,4 @@ pub mod Reports
 pub mod Answers
 pub mod Sheets
 pub mod Prints
+pub mod Settles

@@ -18,13 +18,18 @@ use Rattle.promises.specs.Sheets.{IsSheet, NoSheet}
 abbrev pub stepsFor : Held → ℕ
 stepsFor h = stepsOf (h .table) (built (h .table)) (h .want)
 
+-- the want names 1 to 8 kinds
+pub record FewKinds (h : Held) : Type 0 where
+  pub one : 1 ≤ length (kinds (h .want))
+  pub few : length (kinds (h .want)) ≤ 8
+
 -- for the bytes of a sheet that holds h
 pub data Answers (h : Held) (p : List ℕ) : Type 0 where
   noKind : length (kinds (h .want)) ≡ 0 → p ≡ refusedLines 1 0 → Answers h p
   manyKinds : 8 < length (kinds (h .want)) → p ≡ refusedLines 2 0 → Answers h p
-  printsNone : NoGroup (h .table) (h .want) → p ≡ stoppedLines (ascii "none") 0 → Answers h p
-  printsSpent : h .budget < stepsFor h → p ≡ stoppedLines (ascii "spent") (h .budget) → Answers h p
-  printsFound : (g : List ℕ) → Closest (h .table) (h .want) g → stepsFor h ≤ h .budget → p ≡ foundLines (diameter (h .table) g) (stepsFor h) (kinds (h .want)) g → Answers h p
+  printsNone : FewKinds h → NoGroup (h .table) (h .want) → stepsFor h ≡ 0 → p ≡ stoppedLines (ascii "none") 0 → Answers h p
+  printsSpent : FewKinds h → h .budget < stepsFor h → p ≡ stoppedLines (ascii "spent") (h .budget) → Answers h p
+  printsFound : FewKinds h → (g : List ℕ) → Closest (h .table) (h .want) g → stepsFor h ≤ h .budget → p ≡ foundLines (diameter (h .table) g) (stepsFor h) (kinds (h .want)) g → Answers h p
 
 -- for any bytes
 pub data Prints (s p : List ℕ) : Type 0 where

@@ -1,5 +1,20 @@
 // Calls of the library, asked by words on standard input and answered by lines on standard output (docs/TRIALS.md).
 
+// The numbers of the calls.
+const SQUARED: u64 = 1;
+
+const ROOT: u64 = 2;
+
+const CHECK: u64 = 3;
+
+const BUILD: u64 = 4;
+
+const SEARCH: u64 = 5;
+
+const WRITE: u64 = 6;
+
+const READ: u64 = 7;
+
 // The most values of a column, and the most bytes of a buffer.
 const VALUES: usize = 6200;
 
@@ -502,8 +517,7 @@ fn check_of(
     out: &mut [u8; BUFFER],
     to: usize,
     n: Columns,
-    nodes: u64,
-    listed: u64,
+    m: Numbers,
     x: &[i32; VALUES],
     y: &[i32; VALUES],
     kit: &[u64; VALUES],
@@ -533,74 +547,10 @@ fn check_of(
         first32(y_hi, s.y_hi),
         first64(kits, n.kits),
         first16(entries, n.entries),
-        nodes as usize,
-        listed as usize,
+        m.nodes as usize,
+        m.listed as usize,
     );
     put_verdict(out, to, v.code, v.at)
-}
-
-fn check_case(
-    input: &mut [u8; BUFFER],
-    out: &mut [u8; BUFFER],
-    w: Words,
-    to: usize,
-    x: &mut [i32; VALUES],
-    y: &mut [i32; VALUES],
-    kit: &mut [u64; VALUES],
-    level: &mut [u8; VALUES],
-    start: &mut [u16; VALUES],
-    count: &mut [u8; VALUES],
-    x_lo: &mut [i32; VALUES],
-    x_hi: &mut [i32; VALUES],
-    y_lo: &mut [i32; VALUES],
-    y_hi: &mut [i32; VALUES],
-    kits: &mut [u64; VALUES],
-    entries: &mut [u16; VALUES],
-) -> Done {
-    let n = read_columns(
-        input,
-        w,
-        x,
-        y,
-        kit,
-        level,
-        start,
-        count,
-        x_lo,
-        x_hi,
-        y_lo,
-        y_hi,
-        kits,
-        entries,
-    );
-    let a = n.w;
-    let nodes = next(input, a);
-    let listed = next(input, nodes);
-    if listed.bad {
-        return Done { w: listed, to };
-    }
-    Done {
-        w: listed,
-        to: check_of(
-            out,
-            to,
-            n,
-            nodes.value,
-            listed.value,
-            x,
-            y,
-            kit,
-            level,
-            start,
-            count,
-            x_lo,
-            x_hi,
-            y_lo,
-            y_hi,
-            kits,
-            entries,
-        ),
-    }
 }
 
 fn put_built(out: &mut [u8; BUFFER], to: usize, b: build::Built) -> usize {
@@ -717,66 +667,6 @@ fn build_of(
     )
 }
 
-fn build_case(
-    input: &mut [u8; BUFFER],
-    out: &mut [u8; BUFFER],
-    w: Words,
-    to: usize,
-    x: &mut [i32; VALUES],
-    y: &mut [i32; VALUES],
-    kit: &mut [u64; VALUES],
-    level: &mut [u8; VALUES],
-    start: &mut [u16; VALUES],
-    count: &mut [u8; VALUES],
-    x_lo: &mut [i32; VALUES],
-    x_hi: &mut [i32; VALUES],
-    y_lo: &mut [i32; VALUES],
-    y_hi: &mut [i32; VALUES],
-    kits: &mut [u64; VALUES],
-    entries: &mut [u16; VALUES],
-) -> Done {
-    let n = read_columns(
-        input,
-        w,
-        x,
-        y,
-        kit,
-        level,
-        start,
-        count,
-        x_lo,
-        x_hi,
-        y_lo,
-        y_hi,
-        kits,
-        entries,
-    );
-    let a = n.w;
-    if a.bad {
-        return Done { w: a, to };
-    }
-    Done {
-        w: a,
-        to: build_of(
-            out,
-            to,
-            n,
-            x,
-            y,
-            kit,
-            level,
-            start,
-            count,
-            x_lo,
-            x_hi,
-            y_lo,
-            y_hi,
-            kits,
-            entries,
-        ),
-    }
-}
-
 fn put_places(out: &mut [u8; BUFFER], to: usize, places: [u16; 8]) -> usize {
     let mut at = to;
     for k in 0..8 {
@@ -798,10 +688,7 @@ fn search_of(
     out: &mut [u8; BUFFER],
     to: usize,
     n: Columns,
-    nodes: u64,
-    listed: u64,
-    want: u64,
-    allowance: u64,
+    m: Numbers,
     x: &[i32; VALUES],
     y: &[i32; VALUES],
     kit: &[u64; VALUES],
@@ -831,15 +718,58 @@ fn search_of(
         first32(y_hi, s.y_hi),
         first64(kits, n.kits),
         first16(entries, n.entries),
-        nodes as usize,
-        listed as usize,
-        want,
-        (allowance % 4294967296) as u32,
+        m.nodes as usize,
+        m.listed as usize,
+        m.want,
+        (m.allowance % 4294967296) as u32,
     );
     put_found(out, to, f)
 }
 
-fn search_case(
+// The numbers after the columns of a tree.
+struct Numbers {
+    w: Words,
+    nodes: u64,
+    listed: u64,
+    want: u64,
+    allowance: u64,
+}
+
+// The builder has none, the check two, the search four.
+fn read_numbers(input: &mut [u8; BUFFER], w: Words, number: u64) -> Numbers {
+    if number == BUILD {
+        return Numbers {
+            w,
+            nodes: 0,
+            listed: 0,
+            want: 0,
+            allowance: 0,
+        };
+    }
+    let nodes = next(input, w);
+    let listed = next(input, nodes);
+    if number == CHECK {
+        return Numbers {
+            w: listed,
+            nodes: nodes.value,
+            listed: listed.value,
+            want: 0,
+            allowance: 0,
+        };
+    }
+    let want = next(input, listed);
+    let allowance = next_within(input, want, 4294967295);
+    Numbers {
+        w: allowance,
+        nodes: nodes.value,
+        listed: listed.value,
+        want: want.value,
+        allowance: allowance.value,
+    }
+}
+
+// Check, builder and search.
+fn tree_case(
     input: &mut [u8; BUFFER],
     out: &mut [u8; BUFFER],
     w: Words,
@@ -857,6 +787,7 @@ fn search_case(
     kits: &mut [u64; VALUES],
     entries: &mut [u16; VALUES],
 ) -> Done {
+    let number = w.value;
     let n = read_columns(
         input,
         w,
@@ -874,23 +805,63 @@ fn search_case(
         entries,
     );
     let a = n.w;
-    let nodes = next(input, a);
-    let listed = next(input, nodes);
-    let want = next(input, listed);
-    let allowance = next_within(input, want, 4294967295);
-    if allowance.bad {
-        return Done { w: allowance, to };
+    let m = read_numbers(input, a, number);
+    let b = m.w;
+    if b.bad {
+        return Done { w: b, to };
+    }
+    if number == CHECK {
+        return Done {
+            w: b,
+            to: check_of(
+                out,
+                to,
+                n,
+                m,
+                x,
+                y,
+                kit,
+                level,
+                start,
+                count,
+                x_lo,
+                x_hi,
+                y_lo,
+                y_hi,
+                kits,
+                entries,
+            ),
+        };
+    }
+    if number == BUILD {
+        return Done {
+            w: b,
+            to: build_of(
+                out,
+                to,
+                n,
+                x,
+                y,
+                kit,
+                level,
+                start,
+                count,
+                x_lo,
+                x_hi,
+                y_lo,
+                y_hi,
+                kits,
+                entries,
+            ),
+        };
     }
     Done {
-        w: allowance,
+        w: b,
         to: search_of(
             out,
             to,
             n,
-            nodes.value,
-            listed.value,
-            want.value,
-            allowance.value,
+            m,
             x,
             y,
             kit,
@@ -1064,9 +1035,9 @@ fn call(
 ) -> Done {
     let number = w.value;
     match number {
-        1 => squared_case(input, out, w, to),
-        2 => root_case(input, out, w, to),
-        3 => check_case(
+        SQUARED => squared_case(input, out, w, to),
+        ROOT => root_case(input, out, w, to),
+        CHECK | BUILD | SEARCH => tree_case(
             input,
             out,
             w,
@@ -1084,44 +1055,8 @@ fn call(
             kits,
             entries,
         ),
-        4 => build_case(
-            input,
-            out,
-            w,
-            to,
-            x,
-            y,
-            kit,
-            level,
-            start,
-            count,
-            x_lo,
-            x_hi,
-            y_lo,
-            y_hi,
-            kits,
-            entries,
-        ),
-        5 => search_case(
-            input,
-            out,
-            w,
-            to,
-            x,
-            y,
-            kit,
-            level,
-            start,
-            count,
-            x_lo,
-            x_hi,
-            y_lo,
-            y_hi,
-            kits,
-            entries,
-        ),
-        6 => write_case(input, out, w, to, x, y, kit, bytes),
-        7 => read_case(input, out, w, to, x, y, kit, bytes),
+        WRITE => write_case(input, out, w, to, x, y, kit, bytes),
+        READ => read_case(input, out, w, to, x, y, kit, bytes),
         _ => Done { w: fail(w), to },
     }
 }

@@ -484,57 +484,6 @@ fn read_case(
     }
 }
 
-// The call of a number; no other number is known.
-fn call(
-    input: &mut [u8; BUFFER],
-    out: &mut [u8; BUFFER],
-    w: words::Words,
-    to: usize,
-    x: &mut [i32; VALUES],
-    y: &mut [i32; VALUES],
-    kit: &mut [u64; VALUES],
-    level: &mut [u8; VALUES],
-    start: &mut [u16; VALUES],
-    count: &mut [u8; VALUES],
-    x_lo: &mut [i32; VALUES],
-    x_hi: &mut [i32; VALUES],
-    y_lo: &mut [i32; VALUES],
-    y_hi: &mut [i32; VALUES],
-    kits: &mut [u64; VALUES],
-    entries: &mut [u16; VALUES],
-    bytes: &mut [u8; BYTES],
-) -> Done {
-    let number = w.value;
-    match number {
-        SQUARED => squared_case(input, out, w, to),
-        ROOT => root_case(input, out, w, to),
-        CHECK | BUILD | SEARCH => tree_case(
-            input,
-            out,
-            w,
-            to,
-            x,
-            y,
-            kit,
-            level,
-            start,
-            count,
-            x_lo,
-            x_hi,
-            y_lo,
-            y_hi,
-            kits,
-            entries,
-        ),
-        WRITE => write_case(input, out, w, to, x, y, kit, bytes),
-        READ => read_case(input, out, w, to, x, y, kit, bytes),
-        _ => Done {
-            w: words::fail(w),
-            to,
-        },
-    }
-}
-
 // How far input and output have come after a turn, and whether it was the last.
 struct Turn {
     w: words::Words,
@@ -542,7 +491,24 @@ struct Turn {
     last: bool,
 }
 
-// A case and its line; at the end of the input nothing, and after a bad case nothing more.
+// The end of a line; after a bad case nothing more.
+fn end_line(out: &mut [u8; BUFFER], d: Done) -> Turn {
+    let w = d.w;
+    if w.bad {
+        return Turn {
+            w,
+            to: show::put(out, d.to, b"bad case\n"),
+            last: true,
+        };
+    }
+    Turn {
+        w,
+        to: show::put_byte(out, d.to, b'\n'),
+        last: false,
+    }
+}
+
+// A case and its line, or the end of the input. No other number of a call is known.
 fn answer_one(
     input: &mut [u8; BUFFER],
     out: &mut [u8; BUFFER],
@@ -570,38 +536,53 @@ fn answer_one(
             last: true,
         };
     }
-    let number = words::next(input, v);
-    let d = call(
-        input,
-        out,
-        number,
-        to,
-        x,
-        y,
-        kit,
-        level,
-        start,
-        count,
-        x_lo,
-        x_hi,
-        y_lo,
-        y_hi,
-        kits,
-        entries,
-        bytes,
-    );
-    let a = d.w;
-    if a.bad {
-        return Turn {
-            w: a,
-            to: show::put(out, d.to, b"bad case\n"),
-            last: true,
-        };
-    }
-    Turn {
-        w: a,
-        to: show::put_byte(out, d.to, b'\n'),
-        last: false,
+    let n = words::next(input, v);
+    let number = n.value;
+    match number {
+        SQUARED => {
+            let d = squared_case(input, out, n, to);
+            end_line(out, d)
+        }
+        ROOT => {
+            let d = root_case(input, out, n, to);
+            end_line(out, d)
+        }
+        CHECK | BUILD | SEARCH => {
+            let d = tree_case(
+                input,
+                out,
+                n,
+                to,
+                x,
+                y,
+                kit,
+                level,
+                start,
+                count,
+                x_lo,
+                x_hi,
+                y_lo,
+                y_hi,
+                kits,
+                entries,
+            );
+            end_line(out, d)
+        }
+        WRITE => {
+            let d = write_case(input, out, n, to, x, y, kit, bytes);
+            end_line(out, d)
+        }
+        READ => {
+            let d = read_case(input, out, n, to, x, y, kit, bytes);
+            end_line(out, d)
+        }
+        _ => end_line(
+            out,
+            Done {
+                w: words::fail(n),
+                to,
+            },
+        ),
     }
 }
 

@@ -1,0 +1,137 @@
+// The lines of the output.
+use crate::BUFFER;
+
+// The numbers of narrow columns.
+fn wide8(b: u8) -> u64 {
+    b as u64
+}
+
+fn wide16(n: u16) -> u64 {
+    n as u64
+}
+
+// A byte into the output's buffer, which is filled up to `to`; once it is full, it is written.
+pub fn put_byte(out: &mut [u8; BUFFER], to: usize, b: u8) -> usize {
+    if BUFFER <= to {
+        return 0;
+    }
+    out[to] = b;
+    let next = to + 1;
+    if next == BUFFER {
+        io::write_all(1, out);
+        return 0;
+    }
+    next
+}
+
+pub fn put(out: &mut [u8; BUFFER], to: usize, text: &[u8]) -> usize {
+    let mut at = to;
+    for i in 0..text.len() {
+        at = put_byte(out, at, text[i]);
+    }
+    at
+}
+
+pub fn put_number(out: &mut [u8; BUFFER], to: usize, n: u64) -> usize {
+    let mut text = [0u8; 20];
+    let k = io::decimal(n, &mut text);
+    put(out, to, &text[..k])
+}
+
+fn put_signed(out: &mut [u8; BUFFER], to: usize, z: i32) -> usize {
+    let mut text = [0u8; 21];
+    let k = print::put_signed(&mut text, 0, z);
+    put(out, to, &text[..k])
+}
+
+// A space and a number.
+pub fn put_next(out: &mut [u8; BUFFER], to: usize, n: u64) -> usize {
+    let at = put_byte(out, to, b' ');
+    put_number(out, at, n)
+}
+
+pub fn put_column8(out: &mut [u8; BUFFER], to: usize, s: &[u8]) -> usize {
+    let mut at = put(out, to, b" |");
+    for i in 0..s.len() {
+        at = put_next(out, at, wide8(s[i]));
+    }
+    at
+}
+
+pub fn put_column16(out: &mut [u8; BUFFER], to: usize, s: &[u16]) -> usize {
+    let mut at = put(out, to, b" |");
+    for i in 0..s.len() {
+        at = put_next(out, at, wide16(s[i]));
+    }
+    at
+}
+
+pub fn put_column32(out: &mut [u8; BUFFER], to: usize, s: &[i32]) -> usize {
+    let mut at = put(out, to, b" |");
+    for i in 0..s.len() {
+        at = put_byte(out, at, b' ');
+        at = put_signed(out, at, s[i]);
+    }
+    at
+}
+
+pub fn put_column64(out: &mut [u8; BUFFER], to: usize, s: &[u64]) -> usize {
+    let mut at = put(out, to, b" |");
+    for i in 0..s.len() {
+        at = put_next(out, at, s[i]);
+    }
+    at
+}
+
+// The first two fields of most answers.
+pub fn put_verdict(out: &mut [u8; BUFFER], to: usize, code: u8, at: usize) -> usize {
+    let k = put_number(out, to, code as u64);
+    put_next(out, k, at as u64)
+}
+
+pub fn put_built(out: &mut [u8; BUFFER], to: usize, b: build::Built) -> usize {
+    let k = put_verdict(out, to, b.code, b.at);
+    let j = put_next(out, k, b.nodes as u64);
+    put_next(out, j, b.listed as u64)
+}
+
+pub fn put_tree(
+    out: &mut [u8; BUFFER],
+    to: usize,
+    level: &[u8],
+    start: &[u16],
+    count: &[u8],
+    x_lo: &[i32],
+    x_hi: &[i32],
+    y_lo: &[i32],
+    y_hi: &[i32],
+    kits: &[u64],
+    entries: &[u16],
+) -> usize {
+    let a = put_column8(out, to, level);
+    let b = put_column16(out, a, start);
+    let c = put_column8(out, b, count);
+    let d = put_column32(out, c, x_lo);
+    let e = put_column32(out, d, x_hi);
+    let f = put_column32(out, e, y_lo);
+    let g = put_column32(out, f, y_hi);
+    let h = put_column64(out, g, kits);
+    put_column16(out, h, entries)
+}
+
+fn put_places(out: &mut [u8; BUFFER], to: usize, places: [u16; 8]) -> usize {
+    let mut at = to;
+    for k in 0..8 {
+        at = put_next(out, at, wide16(places[k]));
+    }
+    at
+}
+
+pub fn put_found(out: &mut [u8; BUFFER], to: usize, f: search::Found) -> usize {
+    let a = put_verdict(out, to, f.code, f.at);
+    let places = f.places;
+    let b = put_places(out, a, places);
+    let c = put_next(out, b, f.squared);
+    let d = put_next(out, c, f.steps as u64);
+    put_next(out, d, f.known as u64)
+}

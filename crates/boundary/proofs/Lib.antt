@@ -1,0 +1,5 @@
+-- Laws of the calls for C.
+pub mod WordLaws
+pub mod KeptLaws
+pub mod FitLaws
+pub mod LineLaws

@@ -3,3 +3,4 @@ pub mod WordLaws
 pub mod KeptLaws
 pub mod FitLaws
 pub mod LineLaws
+pub mod SearchLaws

@@ -1,4 +1,5 @@
-// The library for C: every call over numbers and slices, and its answer in words.
+// The library for C: every call over numbers and slices. An answer of several words is written at the start of a lent array, and the
+// call gives how many words that is; where the array is shorter it gives 0 and does nothing.
 ghost use mathlib.Core.Path.{_≡_};
 ghost use mathlib.Core.Bool.{true};
 ghost use Prim.Native.Nat.{_+_, _≤_};
@@ -161,6 +162,9 @@ pub extern "C" fn longhorbi_squared(ax: i32, ay: i32, bx: i32, by: i32, answer: 
     ensures { λ r. ⌜ r ≡ laid (measuredWords (measured ax ay bx by)) (now (answer .entry)) ⌝ }
     ensures { λ _. ⌜ now (answer .exit) ≡ holding (measuredWords (measured ax ay bx by)) (now (answer .entry)) ⌝ }
 {
+    if answer.len() < 3 {
+        return 0;
+    }
     let m = plane::squared(ax, ay, bx, by);
     let words = [m.code as u64, m.at as u64, m.squared];
     lay(&words, answer)
@@ -188,6 +192,9 @@ pub extern "C" fn longhorbi_check(
     ensures { λ r. ⌜ r ≡ laid (verdictWords (verdict (checkRules (table (now (x .entry)) (now (y .entry)) (now (kit .entry))) (tree (shape nodes listed (now (level .entry)) (now (start .entry)) (now (count .entry)) (now (entries .entry))) (sides (now («x_lo» .entry)) (now («x_hi» .entry)) (now («y_lo» .entry)) (now («y_hi» .entry))) (now (kits .entry)))))) (now (answer .entry)) ⌝ }
     ensures { λ _. ⌜ now (answer .exit) ≡ holding (verdictWords (verdict (checkRules (table (now (x .entry)) (now (y .entry)) (now (kit .entry))) (tree (shape nodes listed (now (level .entry)) (now (start .entry)) (now (count .entry)) (now (entries .entry))) (sides (now («x_lo» .entry)) (now («x_hi» .entry)) (now («y_lo» .entry)) (now («y_hi» .entry))) (now (kits .entry)))))) (now (answer .entry)) ⌝ }
 {
+    if answer.len() < 2 {
+        return 0;
+    }
     let v = tree::check(
         x,
         y,
@@ -274,6 +281,9 @@ pub extern "C" fn longhorbi_search(
     ensures { λ r. ⌜ r ≡ laid (foundWords (searched (table (now (x .entry)) (now (y .entry)) (now (kit .entry))) (tree (shape nodes listed (now (level .entry)) (now (start .entry)) (now (count .entry)) (now (entries .entry))) (sides (now («x_lo» .entry)) (now («x_hi» .entry)) (now («y_lo» .entry)) (now («y_hi» .entry))) (now (kits .entry))) want allowance)) (now (answer .entry)) ⌝ }
     ensures { λ _. ⌜ now (answer .exit) ≡ holding (foundWords (searched (table (now (x .entry)) (now (y .entry)) (now (kit .entry))) (tree (shape nodes listed (now (level .entry)) (now (start .entry)) (now (count .entry)) (now (entries .entry))) (sides (now («x_lo» .entry)) (now («x_hi» .entry)) (now («y_lo» .entry)) (now («y_hi» .entry))) (now (kits .entry))) want allowance)) (now (answer .entry)) ⌝ }
 {
+    if answer.len() < 13 {
+        return 0;
+    }
     let f = search::search(
         x,
         y,

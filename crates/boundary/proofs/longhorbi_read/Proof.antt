@@ -1,7 +1,6 @@
 -- Where the answer has room the sheet is read, and else nothing happens.
 -- Assumes nothing.
 use mathlib.Core.Path.{ap, _∙_}
-use native.Mathlib.Omega.{arith}
 use borrow.Author.Needs.{needs}
 use Rattle.answer.proofs.LentLaws.{too-short}
 use Rattle.boundary.specs.Words.{sheetWords}

@@ -4,3 +4,4 @@ pub mod KeptLaws
 pub mod FitLaws
 pub mod LineLaws
 pub mod SearchLaws
+pub mod BackLaws

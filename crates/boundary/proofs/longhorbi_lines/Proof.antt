@@ -1,6 +1,6 @@
 -- The lines of a search whose words fit, and else nothing.
 -- Assumes nothing.
-use mathlib.Core.Path.{_≡_, sym, _∙_}
+use mathlib.Core.Path.{sym, _∙_}
 use borrow.Author.Tests.{not-true, not-false}
 use borrow.Author.Needs.{needs}
 use Rattle.boundary.proofs.WordLaws.{relaid}

@@ -126,33 +126,46 @@ struct Ratios {
 };
 
 struct SearchTimes {
-    double steps, library, all, kept, check_share;
+    double steps, library, tested, measured, kept, check_share;
     bool spent;
 };
 
 // Times per step. The library's search checks the tree first: the time of the check alone is taken off.
 SearchTimes time_search(const Table &t, const Tree &w, uint64_t want) {
     const Found f = library::search(t, w, want, allowance);
-    agree(f == plain::search(t, w, want, allowance, Pairs::all), "search, all pairs");
-    agree(f == plain::search(t, w, want, allowance, Pairs::kept), "search, kept pairs");
+    for (Pairs pairs : {Pairs::tested, Pairs::measured, Pairs::kept}) agree(f == plain::search(t, w, want, allowance, pairs), "the search");
     const auto ns = times({[&] { sink = library::search(t, w, want, allowance).squared; },
                            [&] { sink = library::check(t, w).code; },
-                           [&] { sink = plain::search(t, w, want, allowance, Pairs::all).squared; },
+                           [&] { sink = plain::search(t, w, want, allowance, Pairs::tested).squared; },
+                           [&] { sink = plain::search(t, w, want, allowance, Pairs::measured).squared; },
                            [&] { sink = plain::search(t, w, want, allowance, Pairs::kept).squared; }});
     const double steps = f.steps;
-    return {steps, (ns[0] - ns[1]) / steps, ns[2] / steps, ns[3] / steps, ns[1] / ns[0], f.code == 32};
+    return {steps, (ns[0] - ns[1]) / steps, ns[2] / steps, ns[3] / steps, ns[4] / steps, ns[1] / ns[0], f.code == 32};
 }
 
-void print_search_row(size_t places, unsigned kinds, Shape shape, size_t m, const SearchTimes &s) {
-    std::printf("| %zu | %u | %s | %zu | %.0f%s | %.1f | %.1f | %.1f | %.2f | %.2f | %.0f%% |\n", places, kinds, shape_names[static_cast<int>(shape)], m,
-                s.steps, s.spent ? " (spent)" : "", s.library, s.all, s.kept, s.library / s.all, s.library / s.kept, 100 * s.check_share);
+// The columns that all tables of walks end with.
+const char *const walk_columns = " steps | Longhorbi | tested | measured | kept | to tested | to measured | to kept |";
+
+void print_walk(const SearchTimes &s) {
+    std::printf(" %.0f%s | %.1f | %.1f | %.1f | %.1f | %.2f | %.2f | %.2f |", s.steps, s.spent ? " (spent)" : "", s.library, s.tested, s.measured, s.kept,
+                s.library / s.tested, s.library / s.measured, s.library / s.kept);
 }
 
-void search_summary(const std::vector<Ratios> &all, const std::vector<Ratios> &kept) {
+// The ratios to the three walks in C++, over several walks.
+struct WalkRatios {
+    Ratios tested, measured, kept;
+    void add(const SearchTimes &s) { tested.add(s.library / s.tested), measured.add(s.library / s.measured), kept.add(s.library / s.kept); }
+};
+
+void print_summary(const std::vector<WalkRatios> &by_m) {
     std::printf("\nBy number of kinds, over the walks of which the check is at most half: the geometric mean of the ratios, and the worst.\n\n");
-    std::printf("| m | walks | to plain | worst | to kept | worst |\n|---|---|---|---|---|---|\n");
-    for (size_t i = 0; i < all.size(); i++)
-        if (all[i].n > 0) std::printf("| %zu | %.0f | %.2f | %.2f | %.2f | %.2f |\n", wants[i], all[i].n, all[i].mean(), all[i].worst, kept[i].mean(), kept[i].worst);
+    std::printf("| m | walks | to tested | worst | to measured | worst | to kept | worst |\n|---|---|---|---|---|---|---|---|\n");
+    for (size_t i = 0; i < by_m.size(); i++) {
+        if (by_m[i].tested.n == 0) continue;
+        std::printf("| %zu | %.0f |", wants[i], by_m[i].tested.n);
+        for (const Ratios *r : {&by_m[i].tested, &by_m[i].measured, &by_m[i].kept}) std::printf(" %.2f | %.2f |", r->mean(), r->worst);
+        std::printf("\n");
+    }
 }
 
 struct Case {
@@ -164,18 +177,21 @@ struct Case {
 };
 
 void bench_search(Random &r, const std::vector<Case> &cases) {
-    std::printf("\n## The search\n\nThe same walk three times, ns per step; `plain` tests all pairs of each candidate, `kept` measures the pairs that stay once for each opened "
-                "member. The library's search checks the tree first: the time of its check alone is taken off, and the last column says how much of the whole that was "
-                "(where it is most, the number is rough). Allowance %u.\n\n", allowance);
-    std::printf("| places | kinds | shape | m | steps | Longhorbi | plain | kept | to plain | to kept | check |\n|---|---|---|---|---|---|---|---|---|---|---|\n");
-    std::vector<Ratios> all(std::size(wants)), kept(std::size(wants));
+    std::printf("\n## The search\n\nThe same walk, ns per step, against three walks in C++: `tested` tests all pairs of each candidate and leaves at the first that is too far apart; "
+                "`measured` takes the largest distance of all pairs; `kept` tests only the pairs of the new member, and measures the others once for each opened member. The library's "
+                "search checks the tree first: the time of its check alone is taken off, and the last column says how much of the whole that was (where it is most, the numbers "
+                "are rough). Allowance %u.\n\n", allowance);
+    std::printf("| places | kinds | shape | m |%s check |\n|---|---|---|---|---|---|---|---|---|---|---|---|---|\n", walk_columns);
+    std::vector<WalkRatios> by_m(std::size(wants));
     for (const Case &c : cases)
         for (size_t i = 0; i < std::size(wants); i++) {
             const SearchTimes s = time_search(c.table, c.tree, make_want(r, c.tree.kits[0], wants[i]));
-            print_search_row(c.places, c.kinds, c.shape, wants[i], s);
-            if (s.check_share <= 0.5) all[i].add(s.library / s.all), kept[i].add(s.library / s.kept);
+            std::printf("| %zu | %u | %s | %zu |", c.places, c.kinds, shape_names[static_cast<int>(c.shape)], wants[i]);
+            print_walk(s);
+            std::printf(" %.0f%% |\n", 100 * s.check_share);
+            if (s.check_share <= 0.5) by_m[i].add(s);
         }
-    search_summary(all, kept);
+    print_summary(by_m);
 }
 
 // --- 2, 3, 4: check, builder, reader ---
@@ -203,20 +219,42 @@ void agree_on_reading(const std::string &text, Table &into) {
           "what was read");
 }
 
-void bench_parts(const std::vector<Case> &cases) {
-    std::printf("\n## Check, builder, reader\n\nMicroseconds of a call. The check: all rules, on a good tree. The builder: against `std::sort` by the same key. The reader: a good sheet.\n\n");
+// Tables of one kind, with their trees and sheets: calls go round them, so that no side learns one by heart.
+struct Batch {
+    std::vector<Table> tables;
+    std::vector<Tree> trees;
+    std::vector<std::string> texts;
+    size_t turn = 0;
+    size_t next() { return turn = (turn + 1) % tables.size(); }
+};
+
+Batch make_batch(Random &r, const Case &c, Tree &room, Table &into) {
+    Batch b;
+    for (int i = 0; i < 16; i++) {
+        const Table t = make_table(r, c.shape, c.places, c.kinds);
+        library::build(t, room);
+        b.tables.push_back(t), b.trees.push_back(plain::build(t)), b.texts.push_back(library::write(t, 1, allowance));
+        agree(same_tree(room, b.trees.back()), "the built tree");
+        agree(plain::check(t, b.trees.back()).code == 0 && library::check(t, b.trees.back()).code == 0, "the check");
+        agree_on_reading(b.texts.back(), into);
+    }
+    return b;
+}
+
+void bench_parts(Random &r, const std::vector<Case> &cases) {
+    std::printf("\n## Check, builder, reader\n\nMicroseconds of a call, going round sixteen tables. The check: all rules, on a good tree. The builder: against `std::sort` by the same key. "
+                "The reader: a good sheet.\n\n");
     std::printf("| places | kinds | shape | check | C++ | ratio | build | C++ | ratio | read | C++ | ratio |\n|---|---|---|---|---|---|---|---|---|---|---|---|\n");
     Table into = full_columns();
     Tree room = library::room();
     for (const Case &c : cases) {
-        const std::string text = library::write(c.table, 1, allowance);
-        library::build(c.table, room);
-        agree(same_tree(room, plain::build(c.table)), "the built tree");
-        agree(library::check(c.table, c.tree) == plain::check(c.table, c.tree) && plain::check(c.table, c.tree).code == 0, "the check");
-        agree_on_reading(text, into);
-        const auto ns = times({[&] { sink = library::check(c.table, c.tree).code; }, [&] { sink = plain::check(c.table, c.tree).code; },
-                               [&] { library::build(c.table, room); sink = room.kits[0]; }, [&] { sink = plain::build(c.table).kits[0]; },
-                               [&] { sink = library::read(text, into).places; }, [&] { sink = plain::read(text).table.places(); }});
+        Batch b = make_batch(r, c, room, into);
+        const auto ns = times({[&] { const size_t i = b.next(); sink = library::check(b.tables[i], b.trees[i]).code; },
+                               [&] { const size_t i = b.next(); sink = plain::check(b.tables[i], b.trees[i]).code; },
+                               [&] { library::build(b.tables[b.next()], room); sink = room.kits[0]; },
+                               [&] { sink = plain::build(b.tables[b.next()]).kits[0]; },
+                               [&] { sink = library::read(b.texts[b.next()], into).places; },
+                               [&] { sink = plain::read(b.texts[b.next()]).table.places(); }});
         std::printf("| %zu | %u | %s", c.places, c.kinds, shape_names[static_cast<int>(c.shape)]);
         for (size_t i = 0; i < ns.size(); i += 2) std::printf(" | %.2f | %.2f | %.2f", ns[i] / 1e3, ns[i + 1] / 1e3, ns[i] / ns[i + 1]);
         std::printf(" |\n");
@@ -241,14 +279,14 @@ std::string full_sheet(const Table &t, uint64_t want, uint32_t budget) {
 
 void bench_whole(Random &r) {
     std::printf("\n## The program\n\nFrom the bytes of a full sheet to the bytes of the answer (`longhorbi_reply`), without starting a process; microseconds of a call. C++: its reader, builder, walk "
-                "and printing.\n\n| bytes | places | m | budget | answer | Longhorbi | plain | kept | to plain | to kept |\n|---|---|---|---|---|---|---|---|---|---|\n");
+                "and printing.\n\n| bytes | places | m | budget | answer | Longhorbi | C++, tested | C++, kept | to tested | to kept |\n|---|---|---|---|---|---|---|---|---|---|\n");
     const Table t = make_table(r, Shape::uniform, 2000, 64);
     for (uint32_t budget : {0u, 2000u, allowance})
         for (size_t m : wants) {
             const std::string text = full_sheet(t, make_want(r, UINT64_MAX, m), budget);
             const std::string said = library::reply(text);
-            agree(said == plain::reply(text, Pairs::all) && said == plain::reply(text, Pairs::kept), "the reply");
-            const auto ns = times({[&] { sink = library::reply(text).size(); }, [&] { sink = plain::reply(text, Pairs::all).size(); }, [&] { sink = plain::reply(text, Pairs::kept).size(); }});
+            agree(said == plain::reply(text, Pairs::tested) && said == plain::reply(text, Pairs::kept), "the reply");
+            const auto ns = times({[&] { sink = library::reply(text).size(); }, [&] { sink = plain::reply(text, Pairs::tested).size(); }, [&] { sink = plain::reply(text, Pairs::kept).size(); }});
             std::printf("| %zu | %zu | %zu | %u | %s | %.1f | %.1f | %.1f | %.2f | %.2f |\n", text.size(), plain::read(text).table.places(), m, budget,
                         said.substr(7, said.find('\n') - 7).c_str(), ns[0] / 1e3, ns[1] / 1e3, ns[2] / 1e3, ns[0] / ns[1], ns[0] / ns[2]);
         }
@@ -285,7 +323,7 @@ void try_damaged(Random &r) {
         if (r.below(8) == 0) s.resize(r.below(s.size() + 1));
         if (r.below(8) == 0) s += '\n';
         agree_on_reading(s, into);
-        agree(library::reply(s) == plain::reply(s, Pairs::all), "the reply to a damaged sheet");
+        agree(library::reply(s) == plain::reply(s, Pairs::tested), "the reply to a damaged sheet");
     }
 }
 
@@ -336,25 +374,32 @@ void show_stack(const char *what, const std::function<void()> &call) {
     std::printf("- %s: %zu bytes of stack\n", what, touched(call) - empty);
 }
 
+// A leaf of which each of 8 kinds has so many holders: 1, 2, 4 or 8.
+Table few_holders(Random &r, size_t holders) {
+    Table t = make_table(r, Shape::uniform, holders == 1 ? 8 : 16, 1);
+    for (size_t p = 0; p < t.places(); p++) {
+        t.kit[p] = 1 << p % 8;
+        if (holders >= 4) t.kit[p] |= 1 << (p + 3) % 8;
+        if (holders >= 8) t.kit[p] |= 1 << (p + 1) % 8 | 1 << (p + 6) % 8;
+    }
+    return t;
+}
+
 void bench_depth(Random &r) {
-    std::printf("\n## The depth limit\n\nA foreign tree of six levels (five nodes with runs of one above a leaf of 4 or 16 places), want of 8 kinds: 48 replacements deep. Both sides agree; ns per step:\n\n");
-    std::printf("| places | steps | Longhorbi | plain | kept | to plain | to kept |\n|---|---|---|---|---|---|---|\n");
-    for (size_t places : {4, 16}) {
-        Table t = make_table(r, Shape::uniform, places, 8);
-        for (uint64_t &kit : t.kit) kit |= places == 4 ? 0xff : r.next() & 0xff;
-        t.kit[0] |= 0xff;
-        const Tree w = chain_above(t);
-        const SearchTimes s = time_search(t, w, 0xff);
-        std::printf("| %zu | %.0f%s | %.1f | %.1f | %.1f | %.2f | %.2f |\n", places, s.steps, s.spent ? " (spent)" : "", s.library, s.all, s.kept, s.library / s.all, s.library / s.kept);
+    std::printf("\n## The depth limit\n\nA foreign tree of six levels, five nodes with runs of one above a leaf, and a want of 8 kinds: a group is 48 replacements deep. All agree; ns per step.\n\n");
+    std::printf("| holders of a kind |%s\n|---|---|---|---|---|---|---|---|---|\n", walk_columns);
+    for (size_t holders : {1, 2, 4, 8}) {
+        const Table t = few_holders(r, holders);
+        std::printf("| %zu |", holders);
+        print_walk(time_search(t, chain_above(t), 0xff));
+        std::printf("\n");
     }
     std::printf("\n");
-    const Table t = make_table(r, Shape::uniform, 16, 1);
-    Table every = t;
-    for (uint64_t &kit : every.kit) kit = 0xff;
-    const Tree w = chain_above(every);
-    const std::string text = full_sheet(make_table(r, Shape::uniform, 2000, 64), 0xff, 2000);
-    show_stack("`longhorbi_search` at that depth", [&] { sink = library::search(every, w, 0xff, 2000).squared; });
-    show_stack("plain C++ at that depth", [&] { sink = plain::search(every, w, 0xff, 2000, Pairs::all).squared; });
+    const Table t = few_holders(r, 8);
+    const Tree w = chain_above(t);
+    const std::string text = full_sheet(make_table(r, Shape::uniform, 2000, 64), 0xff, allowance);
+    show_stack("`longhorbi_search` at that depth", [&] { sink = library::search(t, w, 0xff, allowance).squared; });
+    show_stack("the `tested` walk in C++ at that depth", [&] { sink = plain::search(t, w, 0xff, allowance, Pairs::tested).squared; });
     show_stack("`longhorbi_reply` on a full sheet, m = 8", [&] { sink = library::reply(text).size(); });
 }
 
@@ -377,7 +422,7 @@ int main() {
     const std::vector<Case> cases = make_cases(r);
     try_damaged(r);
     bench_search(r, cases);
-    bench_parts(cases);
+    bench_parts(r, cases);
     bench_whole(r);
     bench_depth(r);
     std::printf("\nThe two sides agreed on all of %zu comparisons.\n", agreed);

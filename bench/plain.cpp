@@ -197,14 +197,11 @@ class Walk {
         std::fill_n(cand, m, Member{w.level[0], 0, node_box(w, 0)});
     }
 
-    Found all_pairs() {
-        take();
-        return found();
-    }
-
-    Found kept_pairs() {
-        take_kept(0, 0);
-        return found();
+    Found run(Pairs pairs) {
+        if (pairs == Pairs::tested) take_tested();
+        else if (pairs == Pairs::measured) take_measured();
+        else take_kept(0, 0);
+        return {spent ? uint64_t{32} : 0, places, best, steps, known};
     }
 
   private:
@@ -218,8 +215,6 @@ class Walk {
     size_t m = 0;
     uint8_t kinds[8] = {};
     Member cand[8] = {};
-
-    Found found() const { return {spent ? uint64_t{32} : 0, places, best, steps, known}; }
 
     bool step() {
         if (steps == allowance) spent = true;
@@ -256,8 +251,7 @@ class Walk {
         return top;
     }
 
-    void offer() {
-        const uint64_t squared = diameter(m);
+    void offer(uint64_t squared) {
         std::array<uint16_t, 8> group{};
         for (size_t i = 0; i < m; i++) group[i] = cand[i].number;
         if (known && (squared > best || (squared == best && !(group < places)))) return;
@@ -279,19 +273,28 @@ class Walk {
         cand[top] = opened;
     }
 
-    // Takes the candidate and all below it; every pair is tested.
-    void take() {
+    // Takes the candidate and all below it.
+    void take_tested() {
         if (!step() || (known && some_pair_beyond())) return;
         const size_t top = topmost();
-        if (cand[top].level == 0) return offer();
-        open(top, [&] { take(); });
+        if (cand[top].level == 0) return offer(diameter(m));
+        open(top, [&] { take_tested(); });
     }
 
-    // The same, where `rest` is the largest squared distance of the pairs without member `fresh`.
+    void take_measured() {
+        if (!step()) return;
+        const uint64_t squared = diameter(m);
+        if (known && squared > best) return;
+        const size_t top = topmost();
+        if (cand[top].level == 0) return offer(squared);
+        open(top, [&] { take_measured(); });
+    }
+
+    // Here `rest` is the largest squared distance of the pairs without member `fresh`.
     void take_kept(size_t fresh, uint64_t rest) {
         if (!step() || (known && (rest > best || beyond(fresh)))) return;
         const size_t top = topmost();
-        if (cand[top].level == 0) return offer();
+        if (cand[top].level == 0) return offer(diameter(m));
         const uint64_t kept = diameter(top);
         open(top, [&] { take_kept(top, kept); });
     }
@@ -438,8 +441,7 @@ Found search(const Table &t, const Tree &w, uint64_t want, uint32_t allowance, P
     const int many = __builtin_popcountll(want);
     f.code = many == 0 ? 1 : many > 8 ? 2 : w.nodes == 0 || (want & ~w.kits[0]) != 0 ? 31 : 0;
     if (f.code != 0) return f;
-    Walk walk(t, w, want, allowance);
-    return pairs == Pairs::all ? walk.all_pairs() : walk.kept_pairs();
+    return Walk(t, w, want, allowance).run(pairs);
 }
 
 Sheet read(std::string_view text) {

@@ -51,7 +51,9 @@ struct Sheet {
     uint32_t budget = 0;
 };
 
-enum class Pairs { all, kept };
+// How a walk tests a candidate: all pairs, up to the first that is too far apart; all pairs, measured to the largest; or only those of the new member,
+// with the largest of the others measured once for each opened member.
+enum class Pairs { tested, measured, kept };
 
 Verdict check(const Table &t, const Tree &w);                                                      // 11, 12, 21 to 26, in linear work
 Tree build(const Table &t);                                                                        // over a table in order

@@ -13,8 +13,8 @@ using plain::Verdict;
 // The columns of a table, and of a tree, as the calls take them.
 #define LENT(v) (v).data(), (v).size()
 #define TABLE(t) LENT((t).x), LENT((t).y), LENT((t).kit)
-#define TREE(w)                                                                                                              \
-    LENT((w).level), LENT((w).start), LENT((w).count), LENT((w).x_lo), LENT((w).x_hi), LENT((w).y_lo), LENT((w).y_hi), LENT((w).kits), \
+#define TREE(w)                                                                                                                            \
+    LENT((w).level), LENT((w).start), LENT((w).count), LENT((w).x_lo), LENT((w).x_hi), LENT((w).y_lo), LENT((w).y_hi), LENT((w).kits),     \
         LENT((w).entries)
 
 inline Verdict check(const Table &t, const Tree &w) {
@@ -75,4 +75,4 @@ inline std::string reply(const std::string &text) {
     return std::string(out, out + n);
 }
 
-}  // namespace library
+} // namespace library

@@ -57,9 +57,7 @@ class Random {
 
 int32_t clamped(int64_t z) { return static_cast<int32_t>(std::clamp<int64_t>(z, -1000000, 1000000)); }
 
-void add(Table &t, int64_t x, int64_t y, uint64_t kit) {
-    t.x.push_back(clamped(x)), t.y.push_back(clamped(y)), t.kit.push_back(kit);
-}
+void add(Table &t, int64_t x, int64_t y, uint64_t kit) { t.x.push_back(clamped(x)), t.y.push_back(clamped(y)), t.kit.push_back(kit); }
 
 uint64_t some_kinds(Random &r, unsigned kinds) {
     uint64_t kit = 0;
@@ -134,8 +132,7 @@ struct SearchTimes {
 SearchTimes time_search(const Table &t, const Tree &w, uint64_t want) {
     const Found f = library::search(t, w, want, allowance);
     for (Pairs pairs : {Pairs::tested, Pairs::measured, Pairs::kept}) agree(f == plain::search(t, w, want, allowance, pairs), "the search");
-    const auto ns = times({[&] { sink = library::search(t, w, want, allowance).squared; },
-                           [&] { sink = library::check(t, w).code; },
+    const auto ns = times({[&] { sink = library::search(t, w, want, allowance).squared; }, [&] { sink = library::check(t, w).code; },
                            [&] { sink = plain::search(t, w, want, allowance, Pairs::tested).squared; },
                            [&] { sink = plain::search(t, w, want, allowance, Pairs::measured).squared; },
                            [&] { sink = plain::search(t, w, want, allowance, Pairs::kept).squared; }});
@@ -147,8 +144,8 @@ SearchTimes time_search(const Table &t, const Tree &w, uint64_t want) {
 const char *const walk_columns = " steps | Longhorbi | tested | measured | kept | to tested | to measured | to kept |";
 
 void print_walk(const SearchTimes &s) {
-    std::printf(" %.0f%s | %.1f | %.1f | %.1f | %.1f | %.2f | %.2f | %.2f |", s.steps, s.spent ? " (spent)" : "", s.library, s.tested, s.measured, s.kept,
-                s.library / s.tested, s.library / s.measured, s.library / s.kept);
+    std::printf(" %.0f%s | %.1f | %.1f | %.1f | %.1f | %.2f | %.2f | %.2f |", s.steps, s.spent ? " (spent)" : "", s.library, s.tested,
+                s.measured, s.kept, s.library / s.tested, s.library / s.measured, s.library / s.kept);
 }
 
 // The ratios to the three walks in C++, over several walks.
@@ -158,7 +155,8 @@ struct WalkRatios {
 };
 
 void print_summary(const std::vector<WalkRatios> &by_m) {
-    std::printf("\nBy number of kinds, over the walks of which the check is at most half: the geometric mean of the ratios, and the worst.\n\n");
+    std::printf(
+        "\nBy number of kinds, over the walks of which the check is at most half: the geometric mean of the ratios, and the worst.\n\n");
     std::printf("| m | walks | to tested | worst | to measured | worst | to kept | worst |\n|---|---|---|---|---|---|---|---|\n");
     for (size_t i = 0; i < by_m.size(); i++) {
         if (by_m[i].tested.n == 0) continue;
@@ -177,10 +175,14 @@ struct Case {
 };
 
 void bench_search(Random &r, const std::vector<Case> &cases) {
-    std::printf("\n## The search\n\nThe same walk, ns per step, against three walks in C++: `tested` tests all pairs of each candidate and leaves at the first that is too far apart; "
-                "`measured` takes the largest distance of all pairs; `kept` tests only the pairs of the new member, and measures the others once for each opened member. The library's "
-                "search checks the tree first: the time of its check alone is taken off, and the last column says how much of the whole that was (where it is most, the numbers "
-                "are rough). Allowance %u.\n\n", allowance);
+    std::printf("\n## The search\n\nThe same walk, ns per step, against three walks in C++: `tested` tests all pairs of each candidate and "
+                "leaves at the first that is too far apart; "
+                "`measured` takes the largest distance of all pairs; `kept` tests only the pairs of the new member, and measures the "
+                "others once for each opened member. The library's "
+                "search checks the tree first: the time of its check alone is taken off, and the last column says how much of the whole "
+                "that was (where it is most, the numbers "
+                "are rough). Allowance %u.\n\n",
+                allowance);
     std::printf("| places | kinds | shape | m |%s check |\n|---|---|---|---|---|---|---|---|---|---|---|---|---|\n", walk_columns);
     std::vector<WalkRatios> by_m(std::size(wants));
     for (const Case &c : cases)
@@ -197,7 +199,9 @@ void bench_search(Random &r, const std::vector<Case> &cases) {
 // --- 2, 3, 4: check, builder, reader ---
 
 bool same_tree(const Tree &a, const Tree &b) {
-    const auto starts = [](const auto &longer, const auto &v) { return longer.size() >= v.size() && std::equal(v.begin(), v.end(), longer.begin()); };
+    const auto starts = [](const auto &longer, const auto &v) {
+        return longer.size() >= v.size() && std::equal(v.begin(), v.end(), longer.begin());
+    };
     return a.nodes == b.nodes && a.listed == b.listed && starts(a.level, b.level) && starts(a.start, b.start) && starts(a.count, b.count) &&
            starts(a.x_lo, b.x_lo) && starts(a.x_hi, b.x_hi) && starts(a.y_lo, b.y_lo) && starts(a.y_hi, b.y_hi) && starts(a.kits, b.kits) &&
            starts(a.entries, b.entries);
@@ -215,7 +219,8 @@ void agree_on_reading(const std::string &text, Table &into) {
     agree(l.verdict == s.verdict, "the reader's verdict");
     if (s.verdict.code != 0) return;
     const auto starts = [](const auto &longer, const auto &v) { return std::equal(v.begin(), v.end(), longer.begin()); };
-    agree(l.places == s.table.places() && l.want == s.want && l.budget == s.budget && starts(into.x, s.table.x) && starts(into.y, s.table.y) && starts(into.kit, s.table.kit),
+    agree(l.places == s.table.places() && l.want == s.want && l.budget == s.budget && starts(into.x, s.table.x) &&
+              starts(into.y, s.table.y) && starts(into.kit, s.table.kit),
           "what was read");
 }
 
@@ -242,19 +247,30 @@ Batch make_batch(Random &r, const Case &c, Tree &room, Table &into) {
 }
 
 void bench_parts(Random &r, const std::vector<Case> &cases) {
-    std::printf("\n## Check, builder, reader\n\nMicroseconds of a call, going round sixteen tables. The check: all rules, on a good tree. The builder: against `std::sort` by the same key. "
+    std::printf("\n## Check, builder, reader\n\nMicroseconds of a call, going round sixteen tables. The check: all rules, on a good tree. "
+                "The builder: against `std::sort` by the same key. "
                 "The reader: a good sheet.\n\n");
-    std::printf("| places | kinds | shape | check | C++ | ratio | build | C++ | ratio | read | C++ | ratio |\n|---|---|---|---|---|---|---|---|---|---|---|---|\n");
+    std::printf("| places | kinds | shape | check | C++ | ratio | build | C++ | ratio | read | C++ | ratio "
+                "|\n|---|---|---|---|---|---|---|---|---|---|---|---|\n");
     Table into = full_columns();
     Tree room = library::room();
     for (const Case &c : cases) {
         Batch b = make_batch(r, c, room, into);
-        const auto ns = times({[&] { const size_t i = b.next(); sink = library::check(b.tables[i], b.trees[i]).code; },
-                               [&] { const size_t i = b.next(); sink = plain::check(b.tables[i], b.trees[i]).code; },
-                               [&] { library::build(b.tables[b.next()], room); sink = room.kits[0]; },
-                               [&] { sink = plain::build(b.tables[b.next()]).kits[0]; },
-                               [&] { sink = library::read(b.texts[b.next()], into).places; },
-                               [&] { sink = plain::read(b.texts[b.next()]).table.places(); }});
+        const auto ns =
+            times({[&] {
+                       const size_t i = b.next();
+                       sink = library::check(b.tables[i], b.trees[i]).code;
+                   },
+                   [&] {
+                       const size_t i = b.next();
+                       sink = plain::check(b.tables[i], b.trees[i]).code;
+                   },
+                   [&] {
+                       library::build(b.tables[b.next()], room);
+                       sink = room.kits[0];
+                   },
+                   [&] { sink = plain::build(b.tables[b.next()]).kits[0]; }, [&] { sink = library::read(b.texts[b.next()], into).places; },
+                   [&] { sink = plain::read(b.texts[b.next()]).table.places(); }});
         std::printf("| %zu | %u | %s", c.places, c.kinds, shape_names[static_cast<int>(c.shape)]);
         for (size_t i = 0; i < ns.size(); i += 2) std::printf(" | %.2f | %.2f | %.2f", ns[i] / 1e3, ns[i + 1] / 1e3, ns[i] / ns[i + 1]);
         std::printf(" |\n");
@@ -267,7 +283,9 @@ void bench_parts(Random &r, const std::vector<Case> &cases) {
 std::string full_sheet(const Table &t, uint64_t want, uint32_t budget) {
     size_t low = 0, high = t.places() + 1;
     const auto sheet = [&](size_t n) {
-        Table part{{t.x.begin(), t.x.begin() + static_cast<ptrdiff_t>(n)}, {t.y.begin(), t.y.begin() + static_cast<ptrdiff_t>(n)}, {t.kit.begin(), t.kit.begin() + static_cast<ptrdiff_t>(n)}};
+        Table part{{t.x.begin(), t.x.begin() + static_cast<ptrdiff_t>(n)},
+                   {t.y.begin(), t.y.begin() + static_cast<ptrdiff_t>(n)},
+                   {t.kit.begin(), t.kit.begin() + static_cast<ptrdiff_t>(n)}};
         return library::write(part, want, budget);
     };
     while (low + 1 < high) {
@@ -278,17 +296,21 @@ std::string full_sheet(const Table &t, uint64_t want, uint32_t budget) {
 }
 
 void bench_whole(Random &r) {
-    std::printf("\n## The program\n\nFrom the bytes of a full sheet to the bytes of the answer (`longhorbi_reply`), without starting a process; microseconds of a call. C++: its reader, builder, walk "
-                "and printing.\n\n| bytes | places | m | budget | answer | Longhorbi | C++, tested | C++, kept | to tested | to kept |\n|---|---|---|---|---|---|---|---|---|---|\n");
+    std::printf("\n## The program\n\nFrom the bytes of a full sheet to the bytes of the answer (`longhorbi_reply`), without starting a "
+                "process; microseconds of a call. C++: its reader, builder, walk "
+                "and printing.\n\n| bytes | places | m | budget | answer | Longhorbi | C++, tested | C++, kept | to tested | to kept "
+                "|\n|---|---|---|---|---|---|---|---|---|---|\n");
     const Table t = make_table(r, Shape::uniform, 2000, 64);
     for (uint32_t budget : {0u, 2000u, allowance})
         for (size_t m : wants) {
             const std::string text = full_sheet(t, make_want(r, UINT64_MAX, m), budget);
             const std::string said = library::reply(text);
             agree(said == plain::reply(text, Pairs::tested) && said == plain::reply(text, Pairs::kept), "the reply");
-            const auto ns = times({[&] { sink = library::reply(text).size(); }, [&] { sink = plain::reply(text, Pairs::tested).size(); }, [&] { sink = plain::reply(text, Pairs::kept).size(); }});
-            std::printf("| %zu | %zu | %zu | %u | %s | %.1f | %.1f | %.1f | %.2f | %.2f |\n", text.size(), plain::read(text).table.places(), m, budget,
-                        said.substr(7, said.find('\n') - 7).c_str(), ns[0] / 1e3, ns[1] / 1e3, ns[2] / 1e3, ns[0] / ns[1], ns[0] / ns[2]);
+            const auto ns = times({[&] { sink = library::reply(text).size(); }, [&] { sink = plain::reply(text, Pairs::tested).size(); },
+                                   [&] { sink = plain::reply(text, Pairs::kept).size(); }});
+            std::printf("| %zu | %zu | %zu | %u | %s | %.1f | %.1f | %.1f | %.2f | %.2f |\n", text.size(), plain::read(text).table.places(),
+                        m, budget, said.substr(7, said.find('\n') - 7).c_str(), ns[0] / 1e3, ns[1] / 1e3, ns[2] / 1e3, ns[0] / ns[1],
+                        ns[0] / ns[2]);
         }
 }
 
@@ -335,7 +357,8 @@ Tree chain_above(const Table &t) {
     const size_t p = t.places();
     w.nodes = 6, w.listed = p + 5;
     for (size_t n = 0; n < 6; n++) {
-        w.level.push_back(static_cast<uint8_t>(6 - n)), w.start.push_back(static_cast<uint16_t>(n)), w.count.push_back(n < 5 ? 1 : static_cast<uint8_t>(p));
+        w.level.push_back(static_cast<uint8_t>(6 - n)), w.start.push_back(static_cast<uint16_t>(n)),
+            w.count.push_back(n < 5 ? 1 : static_cast<uint8_t>(p));
         w.x_lo.push_back(*std::min_element(t.x.begin(), t.x.end())), w.x_hi.push_back(*std::max_element(t.x.begin(), t.x.end()));
         w.y_lo.push_back(*std::min_element(t.y.begin(), t.y.end())), w.y_hi.push_back(*std::max_element(t.y.begin(), t.y.end()));
         w.kits.push_back(0);
@@ -386,7 +409,8 @@ Table few_holders(Random &r, size_t holders) {
 }
 
 void bench_depth(Random &r) {
-    std::printf("\n## The depth limit\n\nA foreign tree of six levels, five nodes with runs of one above a leaf, and a want of 8 kinds: a group is 48 replacements deep. All agree; ns per step.\n\n");
+    std::printf("\n## The depth limit\n\nA foreign tree of six levels, five nodes with runs of one above a leaf, and a want of 8 kinds: a "
+                "group is 48 replacements deep. All agree; ns per step.\n\n");
     std::printf("| holders of a kind |%s\n|---|---|---|---|---|---|---|---|---|\n", walk_columns);
     for (size_t holders : {1, 2, 4, 8}) {
         const Table t = few_holders(r, holders);
@@ -415,7 +439,7 @@ std::vector<Case> make_cases(Random &r) {
     return cases;
 }
 
-}  // namespace
+} // namespace
 
 int main() {
     Random r(20250131);

@@ -21,9 +21,7 @@ Box join(const Box &a, const Box &b) {
     return {std::min(a.x_lo, b.x_lo), std::max(a.x_hi, b.x_hi), std::min(a.y_lo, b.y_lo), std::max(a.y_hi, b.y_hi)};
 }
 
-int64_t gap(int32_t a_lo, int32_t a_hi, int32_t b_lo, int32_t b_hi) {
-    return std::max(0, std::max(b_lo - a_hi, a_lo - b_hi));
-}
+int64_t gap(int32_t a_lo, int32_t a_hi, int32_t b_lo, int32_t b_hi) { return std::max(0, std::max(b_lo - a_hi, a_lo - b_hi)); }
 
 // The squared distance of the nearest points of two boxes.
 uint64_t apart(const Box &a, const Box &b) {
@@ -398,7 +396,12 @@ uint64_t root(uint64_t n) {
 std::string number_line(const char *key, uint64_t n) { return key + std::to_string(n) + "\n"; }
 
 std::string refusal(const Verdict &v) {
-    const char *family = v.code < 11 ? "query" : v.code < 21 ? "table" : v.code < 31 ? "tree" : v.code < 41 ? "search" : v.code < 51 || v.code > 53 ? "room" : "sheet";
+    const char *family = v.code < 11                  ? "query"
+                         : v.code < 21                ? "table"
+                         : v.code < 31                ? "tree"
+                         : v.code < 41                ? "search"
+                         : v.code < 51 || v.code > 53 ? "room"
+                                                      : "sheet";
     return "answer=refused\n" + number_line("code=", v.code) + "from=" + family + "\n" + number_line("at=", v.at) + "end=answer\n";
 }
 
@@ -406,14 +409,15 @@ std::string answer(const Found &f, uint64_t want) {
     if (f.code == 1 || f.code == 2) return refusal({f.code, 0});
     if (f.code == 31) return "answer=none\nsteps=0\nend=answer\n";
     if (f.code == 32) return "answer=spent\n" + number_line("steps=", f.steps) + "end=answer\n";
-    std::string out = "answer=found\n" + number_line("squared=", f.squared) + number_line("distance=", root(f.squared)) + number_line("steps=", f.steps);
+    std::string out =
+        "answer=found\n" + number_line("squared=", f.squared) + number_line("distance=", root(f.squared)) + number_line("steps=", f.steps);
     size_t i = 0;
     for (uint64_t k = 0; k < 64; k++)
         if (want >> k & 1) out += number_line("need=", k) + number_line("place=", f.places[i++]);
     return out + "end=answer\n";
 }
 
-}  // namespace
+} // namespace
 
 Verdict check(const Table &t, const Tree &w) {
     Verdict v = check_table(t);
@@ -458,4 +462,4 @@ std::string reply(std::string_view text, Pairs pairs) {
     return answer(search(s.table, build(s.table), s.want, s.budget, pairs), s.want);
 }
 
-}  // namespace plain
+} // namespace plain

@@ -51,14 +51,14 @@ struct Sheet {
     uint32_t budget = 0;
 };
 
-// How a walk tests a candidate: all pairs, up to the first that is too far apart; all pairs, measured to the largest; or only those of the new member,
-// with the largest of the others measured once for each opened member.
+// How a walk tests a candidate: all pairs, up to the first that is too far apart; all pairs, measured to the largest; or only those of the
+// new member, with the largest of the others measured once for each opened member.
 enum class Pairs { tested, measured, kept };
 
-Verdict check(const Table &t, const Tree &w);                                                      // 11, 12, 21 to 26, in linear work
-Tree build(const Table &t);                                                                        // over a table in order
-Found search(const Table &t, const Tree &w, uint64_t want, uint32_t allowance, Pairs pairs);       // over a tree in order
-Sheet read(std::string_view text);                                                                 // 51 to 53
-std::string reply(std::string_view text, Pairs pairs);                                             // what the program prints
+Verdict check(const Table &t, const Tree &w);                                                // 11, 12, 21 to 26, in linear work
+Tree build(const Table &t);                                                                  // over a table in order
+Found search(const Table &t, const Tree &w, uint64_t want, uint32_t allowance, Pairs pairs); // over a tree in order
+Sheet read(std::string_view text);                                                           // 51 to 53
+std::string reply(std::string_view text, Pairs pairs);                                       // what the program prints
 
-}  // namespace plain
+} // namespace plain

@@ -380,14 +380,14 @@ pub struct Reader<'a> {
     pub at: usize,
 }
 
-// A reader that stands at the start.
+// Internal: a reader that stands at the start.
 pub fn new<'a>(src: &'a [u8]) -> Reader<'a>
     ensures { λ r. ⌜ (r .src ≡ src .entry) × (r .at ≡ 0) ⌝ }
 {
     Reader { src, at: 0 }
 }
 
-// The reader, come as far as `at`.
+// Internal: the reader, come as far as `at`.
 pub fn moved<'a>(r: Reader<'a>, at: usize) -> Reader<'a>
     ensures { λ q. ⌜ (q .src ≡ r .entry .src) × (q .at ≡ at) ⌝ }
 {

@@ -14,13 +14,14 @@ ghost use Rattle.tree.specs.Rules.{Room, rule21, rules22, rule23, rule24
 ghost use Rattle.tree.specs.Lent;
 ghost use Rattle.tree.specs.Lent.{shape, sides, tree, Decides, Columns, InRun, runSays};
 
-// The numbers of narrow columns, as indices.
+// Internal: a number of a narrow column, as an index.
 pub fn wide8(n: u8) -> usize
     ensures { λ r. ⌜ r ≡ n ⌝ }
 {
     n as usize
 }
 
+// Internal: the same for a wider one.
 pub fn wide16(n: u16) -> usize
     ensures { λ r. ⌜ r ≡ n ⌝ }
 {

@@ -6,28 +6,28 @@ use crate::VALUES;
 use crate::words;
 
 // The first n values of a column, or all of it.
-pub fn first8(s: &[u8], n: u64) -> &[u8] {
+pub(crate) fn first8(s: &[u8], n: u64) -> &[u8] {
     let k = n as usize;
     if k < s.len() { &s[..k] } else { s }
 }
 
-pub fn first16(s: &[u16], n: u64) -> &[u16] {
+pub(crate) fn first16(s: &[u16], n: u64) -> &[u16] {
     let k = n as usize;
     if k < s.len() { &s[..k] } else { s }
 }
 
-pub fn first32(s: &[i32], n: u64) -> &[i32] {
+pub(crate) fn first32(s: &[i32], n: u64) -> &[i32] {
     let k = n as usize;
     if k < s.len() { &s[..k] } else { s }
 }
 
-pub fn first64(s: &[u64], n: u64) -> &[u64] {
+pub(crate) fn first64(s: &[u64], n: u64) -> &[u64] {
     let k = n as usize;
     if k < s.len() { &s[..k] } else { s }
 }
 
 // The first n values of a column, or all of it, to be changed.
-pub fn lend8(s: &mut [u8], n: u64) -> &mut [u8] {
+pub(crate) fn lend8(s: &mut [u8], n: u64) -> &mut [u8] {
     let k = n as usize;
     if k < s.len() {
         return &mut s[..k];
@@ -35,7 +35,7 @@ pub fn lend8(s: &mut [u8], n: u64) -> &mut [u8] {
     s
 }
 
-pub fn lend16(s: &mut [u16], n: u64) -> &mut [u16] {
+pub(crate) fn lend16(s: &mut [u16], n: u64) -> &mut [u16] {
     let k = n as usize;
     if k < s.len() {
         return &mut s[..k];
@@ -43,7 +43,7 @@ pub fn lend16(s: &mut [u16], n: u64) -> &mut [u16] {
     s
 }
 
-pub fn lend32(s: &mut [i32], n: u64) -> &mut [i32] {
+pub(crate) fn lend32(s: &mut [i32], n: u64) -> &mut [i32] {
     let k = n as usize;
     if k < s.len() {
         return &mut s[..k];
@@ -51,7 +51,7 @@ pub fn lend32(s: &mut [i32], n: u64) -> &mut [i32] {
     s
 }
 
-pub fn lend64(s: &mut [u64], n: u64) -> &mut [u64] {
+pub(crate) fn lend64(s: &mut [u64], n: u64) -> &mut [u64] {
     let k = n as usize;
     if k < s.len() {
         return &mut s[..k];
@@ -60,14 +60,14 @@ pub fn lend64(s: &mut [u64], n: u64) -> &mut [u64] {
 }
 
 // How long the columns of a table are.
-pub struct Table {
+pub(crate) struct Table {
     pub w: words::Words,
     pub x: u64,
     pub y: u64,
     pub kit: u64,
 }
 
-pub fn read_table(
+pub(crate) fn read_table(
     input: &mut [u8; BUFFER],
     w: words::Words,
     x: &mut [i32; VALUES],
@@ -86,7 +86,7 @@ pub fn read_table(
 }
 
 // How long the columns of a tree's runs are.
-pub struct Runs {
+pub(crate) struct Runs {
     pub w: words::Words,
     pub level: u64,
     pub start: u64,
@@ -112,7 +112,7 @@ fn read_runs(
 }
 
 // How long the columns of a tree's boxes are.
-pub struct Sides {
+pub(crate) struct Sides {
     pub w: words::Words,
     pub x_lo: u64,
     pub x_hi: u64,
@@ -142,7 +142,7 @@ fn read_sides(
 }
 
 // How long the columns of a table and a tree are.
-pub struct Columns {
+pub(crate) struct Columns {
     pub w: words::Words,
     pub table: Table,
     pub runs: Runs,
@@ -151,7 +151,7 @@ pub struct Columns {
     pub entries: u64,
 }
 
-pub fn read_columns(
+pub(crate) fn read_columns(
     input: &mut [u8; BUFFER],
     w: words::Words,
     x: &mut [i32; VALUES],
@@ -186,7 +186,7 @@ pub fn read_columns(
 }
 
 // The numbers after the columns of a tree.
-pub struct Numbers {
+pub(crate) struct Numbers {
     pub w: words::Words,
     pub nodes: u64,
     pub listed: u64,
@@ -195,7 +195,7 @@ pub struct Numbers {
 }
 
 // The builder has none, the check two, the search four.
-pub fn read_numbers(input: &mut [u8; BUFFER], w: words::Words, number: u64) -> Numbers {
+pub(crate) fn read_numbers(input: &mut [u8; BUFFER], w: words::Words, number: u64) -> Numbers {
     if number == BUILD {
         return Numbers {
             w,

@@ -11,7 +11,7 @@ fn wide16(n: u16) -> u64 {
 }
 
 // A byte into the output's buffer, which is filled up to `to`; once it is full, it is written.
-pub fn put_byte(out: &mut [u8; BUFFER], to: usize, b: u8) -> usize {
+pub(crate) fn put_byte(out: &mut [u8; BUFFER], to: usize, b: u8) -> usize {
     if BUFFER <= to {
         return 0;
     }
@@ -24,7 +24,7 @@ pub fn put_byte(out: &mut [u8; BUFFER], to: usize, b: u8) -> usize {
     next
 }
 
-pub fn put(out: &mut [u8; BUFFER], to: usize, text: &[u8]) -> usize {
+pub(crate) fn put(out: &mut [u8; BUFFER], to: usize, text: &[u8]) -> usize {
     let mut at = to;
     for i in 0..text.len() {
         at = put_byte(out, at, text[i]);
@@ -32,7 +32,7 @@ pub fn put(out: &mut [u8; BUFFER], to: usize, text: &[u8]) -> usize {
     at
 }
 
-pub fn put_number(out: &mut [u8; BUFFER], to: usize, n: u64) -> usize {
+pub(crate) fn put_number(out: &mut [u8; BUFFER], to: usize, n: u64) -> usize {
     let mut text = [0u8; 20];
     let k = io::decimal(n, &mut text);
     put(out, to, &text[..k])
@@ -45,12 +45,12 @@ fn put_signed(out: &mut [u8; BUFFER], to: usize, z: i32) -> usize {
 }
 
 // A space and a number.
-pub fn put_next(out: &mut [u8; BUFFER], to: usize, n: u64) -> usize {
+pub(crate) fn put_next(out: &mut [u8; BUFFER], to: usize, n: u64) -> usize {
     let at = put_byte(out, to, b' ');
     put_number(out, at, n)
 }
 
-pub fn put_column8(out: &mut [u8; BUFFER], to: usize, s: &[u8]) -> usize {
+pub(crate) fn put_column8(out: &mut [u8; BUFFER], to: usize, s: &[u8]) -> usize {
     let mut at = put(out, to, b" |");
     for i in 0..s.len() {
         at = put_next(out, at, wide8(s[i]));
@@ -58,7 +58,7 @@ pub fn put_column8(out: &mut [u8; BUFFER], to: usize, s: &[u8]) -> usize {
     at
 }
 
-pub fn put_column16(out: &mut [u8; BUFFER], to: usize, s: &[u16]) -> usize {
+pub(crate) fn put_column16(out: &mut [u8; BUFFER], to: usize, s: &[u16]) -> usize {
     let mut at = put(out, to, b" |");
     for i in 0..s.len() {
         at = put_next(out, at, wide16(s[i]));
@@ -66,7 +66,7 @@ pub fn put_column16(out: &mut [u8; BUFFER], to: usize, s: &[u16]) -> usize {
     at
 }
 
-pub fn put_column32(out: &mut [u8; BUFFER], to: usize, s: &[i32]) -> usize {
+pub(crate) fn put_column32(out: &mut [u8; BUFFER], to: usize, s: &[i32]) -> usize {
     let mut at = put(out, to, b" |");
     for i in 0..s.len() {
         at = put_byte(out, at, b' ');
@@ -75,7 +75,7 @@ pub fn put_column32(out: &mut [u8; BUFFER], to: usize, s: &[i32]) -> usize {
     at
 }
 
-pub fn put_column64(out: &mut [u8; BUFFER], to: usize, s: &[u64]) -> usize {
+pub(crate) fn put_column64(out: &mut [u8; BUFFER], to: usize, s: &[u64]) -> usize {
     let mut at = put(out, to, b" |");
     for i in 0..s.len() {
         at = put_next(out, at, s[i]);
@@ -84,18 +84,18 @@ pub fn put_column64(out: &mut [u8; BUFFER], to: usize, s: &[u64]) -> usize {
 }
 
 // The first two fields of most answers.
-pub fn put_verdict(out: &mut [u8; BUFFER], to: usize, code: u8, at: usize) -> usize {
+pub(crate) fn put_verdict(out: &mut [u8; BUFFER], to: usize, code: u8, at: usize) -> usize {
     let k = put_number(out, to, code as u64);
     put_next(out, k, at as u64)
 }
 
-pub fn put_built(out: &mut [u8; BUFFER], to: usize, b: build::Built) -> usize {
+pub(crate) fn put_built(out: &mut [u8; BUFFER], to: usize, b: build::Built) -> usize {
     let k = put_verdict(out, to, b.code, b.at);
     let j = put_next(out, k, b.nodes as u64);
     put_next(out, j, b.listed as u64)
 }
 
-pub fn put_tree(
+pub(crate) fn put_tree(
     out: &mut [u8; BUFFER],
     to: usize,
     level: &[u8],
@@ -127,7 +127,7 @@ fn put_places(out: &mut [u8; BUFFER], to: usize, places: [u16; 8]) -> usize {
     at
 }
 
-pub fn put_found(out: &mut [u8; BUFFER], to: usize, f: search::Found) -> usize {
+pub(crate) fn put_found(out: &mut [u8; BUFFER], to: usize, f: search::Found) -> usize {
     let a = put_verdict(out, to, f.code, f.at);
     let places = f.places;
     let b = put_places(out, a, places);

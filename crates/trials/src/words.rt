@@ -3,7 +3,7 @@ use crate::BUFFER;
 
 // How far the input has come: its buffer is unread from `at` to `end`. The last word is `value`.
 // Once something was missing or did not fit, all is `bad` and each word 0.
-pub struct Words {
+pub(crate) struct Words {
     pub at: usize,
     pub end: usize,
     pub value: u64,
@@ -11,7 +11,7 @@ pub struct Words {
 }
 
 // Once the buffer is read, it is filled anew. A read that fails ends the input.
-pub fn refill(input: &mut [u8; BUFFER], w: Words) -> Words {
+pub(crate) fn refill(input: &mut [u8; BUFFER], w: Words) -> Words {
     if w.bad {
         return w;
     }
@@ -27,7 +27,7 @@ pub fn refill(input: &mut [u8; BUFFER], w: Words) -> Words {
     }
 }
 
-pub fn fail(w: Words) -> Words {
+pub(crate) fn fail(w: Words) -> Words {
     Words {
         at: w.at,
         end: w.end,
@@ -59,7 +59,7 @@ fn word_at(s: &[u8], at: usize) -> u64 {
 }
 
 // The next word. Only at the end of the input are fewer than eight bytes left.
-pub fn next(input: &mut [u8; BUFFER], w: Words) -> Words {
+pub(crate) fn next(input: &mut [u8; BUFFER], w: Words) -> Words {
     let v = refill(input, w);
     let at = v.at;
     let end = v.end;
@@ -81,7 +81,7 @@ pub fn next(input: &mut [u8; BUFFER], w: Words) -> Words {
 }
 
 // The next word, where it is at most `most`.
-pub fn next_within(input: &mut [u8; BUFFER], w: Words, most: u64) -> Words {
+pub(crate) fn next_within(input: &mut [u8; BUFFER], w: Words, most: u64) -> Words {
     let v = next(input, w);
     if most < v.value {
         return fail(v);
@@ -90,7 +90,7 @@ pub fn next_within(input: &mut [u8; BUFFER], w: Words, most: u64) -> Words {
 }
 
 // The next word, where it is a signed number of 32 bits.
-pub fn next_signed(input: &mut [u8; BUFFER], w: Words) -> Words {
+pub(crate) fn next_signed(input: &mut [u8; BUFFER], w: Words) -> Words {
     let v = next(input, w);
     if v.value < 2147483648 {
         return v;
@@ -102,7 +102,7 @@ pub fn next_signed(input: &mut [u8; BUFFER], w: Words) -> Words {
 }
 
 // The signed number of such a word.
-pub fn signed_of(n: u64) -> i32 {
+pub(crate) fn signed_of(n: u64) -> i32 {
     if n < 2147483648 {
         return n as i32;
     }
@@ -151,7 +151,7 @@ fn counted(v: Words, n: u64) -> Words {
     }
 }
 
-pub fn read8(input: &mut [u8; BUFFER], w: Words, to: &mut [u8]) -> Words {
+pub(crate) fn read8(input: &mut [u8; BUFFER], w: Words, to: &mut [u8]) -> Words {
     let mut v = next_within(input, w, to.len() as u64);
     let n = v.value;
     for i in 0..n {
@@ -161,7 +161,7 @@ pub fn read8(input: &mut [u8; BUFFER], w: Words, to: &mut [u8]) -> Words {
     counted(v, n)
 }
 
-pub fn read16(input: &mut [u8; BUFFER], w: Words, to: &mut [u16]) -> Words {
+pub(crate) fn read16(input: &mut [u8; BUFFER], w: Words, to: &mut [u16]) -> Words {
     let mut v = next_within(input, w, to.len() as u64);
     let n = v.value;
     for i in 0..n {
@@ -171,7 +171,7 @@ pub fn read16(input: &mut [u8; BUFFER], w: Words, to: &mut [u16]) -> Words {
     counted(v, n)
 }
 
-pub fn read32(input: &mut [u8; BUFFER], w: Words, to: &mut [i32]) -> Words {
+pub(crate) fn read32(input: &mut [u8; BUFFER], w: Words, to: &mut [i32]) -> Words {
     let mut v = next_within(input, w, to.len() as u64);
     let n = v.value;
     for i in 0..n {
@@ -181,7 +181,7 @@ pub fn read32(input: &mut [u8; BUFFER], w: Words, to: &mut [i32]) -> Words {
     counted(v, n)
 }
 
-pub fn read64(input: &mut [u8; BUFFER], w: Words, to: &mut [u64]) -> Words {
+pub(crate) fn read64(input: &mut [u8; BUFFER], w: Words, to: &mut [u64]) -> Words {
     let mut v = next_within(input, w, to.len() as u64);
     let n = v.value;
     for i in 0..n {

@@ -1,4 +1,5 @@
-// The search on harbour H: over the builder's tree, over a foreign tree, and what it refuses.
+// The search on harbour H: over the builder's tree, over a foreign tree, and what it refuses; and on
+// two trees at the depth limit.
 
 fn put(word: &[u8], n: u64) {
     io::write_all(1, word);
@@ -103,6 +104,53 @@ fn over_chain(nodes: usize, east: i32, word: u64, want: u64, allowance: u32) {
     ));
 }
 
+// The depth limit: six levels and eight kinds, so that a group is 48 replacements below the root and
+// the walk calls itself 48 levels deep. The nodes 0 to 4 have runs of one; leaf 5 has one place for
+// each kind.
+fn over_tall(allowance: u32) {
+    show(search::search(
+        &[0, 7, 3, 5, 1, 6, 2, 4],
+        &[2, 5, 0, 6, 3, 1, 4, 7],
+        &[8, 1, 64, 2, 128, 16, 4, 32],
+        &[6, 5, 4, 3, 2, 1],
+        &[0, 1, 2, 3, 4, 5],
+        &[1, 1, 1, 1, 1, 8],
+        &[0; 6],
+        &[7; 6],
+        &[0; 6],
+        &[7; 6],
+        &[255; 6],
+        &[1, 2, 3, 4, 5, 0, 1, 2, 3, 4, 5, 6, 7],
+        6,
+        13,
+        255,
+        allowance,
+    ));
+}
+
+// As deep, with two ways down from the root: to leaf 10 with the places 0 to 3, two for each kind,
+// and to leaf 9 with the same places 20 to the east, numbered 4 to 7, the last one first.
+fn over_fork(allowance: u32) {
+    show(search::search(
+        &[3, 5, 1, 0, 23, 25, 21, 20],
+        &[0, 1, 0, 2, 0, 1, 0, 2],
+        &[86, 45, 147, 232, 86, 45, 147, 232],
+        &[6, 5, 5, 4, 4, 3, 3, 2, 2, 1, 1],
+        &[0, 2, 3, 4, 5, 6, 7, 8, 9, 10, 14],
+        &[2, 1, 1, 1, 1, 1, 1, 1, 1, 4, 4],
+        &[0, 20, 0, 20, 0, 20, 0, 20, 0, 20, 0],
+        &[25, 25, 5, 25, 5, 25, 5, 25, 5, 25, 5],
+        &[0; 11],
+        &[2; 11],
+        &[255; 11],
+        &[1, 2, 3, 4, 5, 6, 7, 8, 9, 10, 7, 6, 5, 4, 0, 1, 2, 3],
+        11,
+        18,
+        255,
+        allowance,
+    ));
+}
+
 // S1 to S7.
 fn soundings() {
     harbour(3, 7);
@@ -127,6 +175,19 @@ fn foreign() {
     over_chain(7, 10, 3, 32, 0);
 }
 
+// The first group is step 49. In the fork 58 of the 293 candidates are dropped, of nodes and of
+// places; the best group of the east is step 140, and the one that ties and wins is step 256.
+fn depth_limit() {
+    over_tall(48);
+    over_tall(49);
+    over_fork(48);
+    over_fork(49);
+    over_fork(255);
+    over_fork(256);
+    over_fork(292);
+    over_fork(293);
+}
+
 // The want, the table, the tree; eight kinds and x = 1,000,000 are not refused for that.
 fn refusals() {
     harbour(0, 7);
@@ -144,5 +205,6 @@ fn main() {
     soundings();
     allowances();
     foreign();
+    depth_limit();
     refusals();
 }

@@ -12,17 +12,13 @@ use lib.ListN.{length}
 use lib.IntN.{ℤ, pos, negsuc, natAbs}
 use Rattle.lines.specs.Text.{Digit, NoZero, valueFrom, decimal, hex, signed, signedValue, minus}
 use Rattle.lines.specs.Form.{Form, InForm, word, natural, coordinate, bits}
+use Rattle.lines.specs.Line.{clear}
 use Rattle.lines.proofs.DigitLaws.{Every, every-to, value-most}
 use Rattle.lines.proofs.NumberLaws.{width-most, decimal-length, decimal-digits, decimal-value, hex-length, hex-digits, hex-value, hex-made, decimal-made, decimal-plain}
 
 -- a byte that is no line feed
 abbrev pub NoFeed : ℕ → Type 0
 NoFeed c = c ≡ 10 → ⊥
-
--- a text with no line feed, by computing
-abbrev pub clear : List ℕ → Bool
-clear [] = true
-clear (c ∷ t) = not (eqb c 10) && clear t
 
 pub every-clear : (t : List ℕ) → T (clear t) → Every NoFeed t
 every-clear [] h = tt

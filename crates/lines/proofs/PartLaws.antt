@@ -8,9 +8,9 @@ use lib.Dec.{T, leb, leb→le}
 use native.Mathlib.Omega.{arith}
 use lib.ListN.{length}
 use Rattle.lines.specs.Form.{Form}
-use Rattle.lines.specs.Line.{Got, refused, got}
+use Rattle.lines.specs.Line.{clear, fair, Got, refused, got}
 use Rattle.lines.specs.Part.{next, Part, oneLine, nothing, andThen, viewed, after, before, FitsOf, textOf, listed, several, accepted, ended, readAll}
-use Rattle.lines.proofs.FormLaws.{clear, every-clear, Sound}
+use Rattle.lines.proofs.FormLaws.{every-clear, Sound}
 use Rattle.lines.proofs.LineLaws.{line-back, line-whole}
 
 -- reading the text of a value gives the value, and what is read well is the text of a value that fits
@@ -100,10 +100,6 @@ pub lawful-several : {A : Type 0} (q : ℕ → Part A) → ((i : ℕ) → Lawful
 unfolding several
 lawful-several q m zero i = lawful-nothing []
 lawful-several q m (suc k) i = lawful-listed (andThen (q i) (λ _. several q k (suc i))) (lawful-then (q i) (λ _. several q k (suc i)) (m i) (λ _. lawful-several q m k (suc i)))
-
--- a key of a few plain bytes, by computing
-abbrev pub fair : List ℕ → Bool
-fair key = leb (length key) 19 && clear key
 
 pub both : (a b : Bool) → T (a && b) → T a × T b
 both true b h = (tt, h)

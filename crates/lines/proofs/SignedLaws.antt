@@ -83,7 +83,7 @@ neg-is : (n : ℕ) → pos 0 -ℤ pos n ≡ minus n
 neg-is zero = refl
 neg-is (suc n) = let e : suc n - suc 0 ≡ n = omega arith in rw (lt-ltb 0 (suc n) (omega arith)) (ap negsuc e)
 
-minus-fits : (n : ℕ) → n ≤ 1000000 → SFits w32 (minus n)
+pub minus-fits : (n : ℕ) → n ≤ 1000000 → SFits w32 (minus n)
 minus-fits zero h = record { sfits = omega arith }
 minus-fits (suc n) h = record { sfits = omega arith }
 

@@ -2,8 +2,10 @@
 -- Assumes nothing.
 use Prim.Native.Nat.{ℕ, zero, suc}
 use mathlib.Core.Path.{_≡_}
+use mathlib.Core.Bool.{Bool, true, not, _&&_}
 use mathlib.Core.List.{List, [], _∷_, _++_}
 use native.Mathlib.Decide.{ℕ-discrete}
+use lib.Dec.{eqb, leb}
 use lib.ListN.{length, take, drop}
 use Rattle.lines.specs.Form.{Form, InForm, inForm, same}
 
@@ -29,6 +31,15 @@ Keyed key t = take (length key) t ≡ key
 
 abbrev pub keyed : (key t : List ℕ) → Dec (Keyed key t)
 keyed key t = same (take (length key) t) key
+
+-- a text with no line feed, by computing
+abbrev pub clear : List ℕ → Bool
+clear [] = true
+clear (c ∷ t) = not (eqb c 10) && clear t
+
+-- a key of a few plain bytes, by computing
+abbrev pub fair : List ℕ → Bool
+fair key = leb (length key) 19 && clear key
 
 -- the line without the due key; none where it has another
 abbrev pub unkey : List ℕ → Cut → Cut

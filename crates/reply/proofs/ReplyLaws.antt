@@ -1,6 +1,6 @@
 -- The program's answer by cases.
 -- Assumes nothing.
-use mathlib.Core.Path.{_≡_, refl, sym, ap, _∙_}
+use mathlib.Core.Path.{_≡_, refl, sym, ap, subst, _∙_}
 use mathlib.Core.List.{List}
 use Prim.Native.Nat.{ℕ, _+_, _≤_, _<_}
 use native.Mathlib.Decide.{decLe}
@@ -17,9 +17,9 @@ use Rattle.lines.specs.Part.{Outcome, fault, accepted}
 use Rattle.sheet.specs.declared.Sheet.{Sheet}
 use Rattle.sheet.specs.Sheet.{Held, readSheet}
 use Rattle.sheet.specs.Lent.{over}
-use Rattle.sheet.specs.Read.{reading, within, roomIn, sheetOf, columnAfter}
+use Rattle.sheet.specs.Read.{sheetOf, columnTaken}
 use Rattle.sheet.proofs.SheetLaws.{written-read}
-use Rattle.sheet.proofs.ReadingLaws.{is-accepted, fits}
+use Rattle.sheet.proofs.ReadingLaws.{is-accepted}
 use Rattle.answer.specs.Answer.{answerLines}
 use Rattle.reply.specs.Reply.{most, printedFor, printed}
 
@@ -73,46 +73,29 @@ module _ {s : List ℕ} {r : Sheet} {x y : List ℤ} {kit : List ℕ} (k : Took 
       ∙ ap (λ (q : Sheet). answerLines (searched (k .held .table) (built (k .held .table)) (q .want) (q .budget)) (q .want)) (k .result)
       ∙ sym (ap printedFor (k .is))
 
-module _ (s : List ℕ) (x y : List ℤ) (kit : List ℕ) (wide : (4096 ≤ length x) × ((4096 ≤ length y) × (4096 ≤ length kit))) where
-  -- the columns have room for every sheet
-  read-all : reading s x y kit ≡ readSheet s
-  read-all = go (readSheet s) refl
+module _ (s : List ℕ) (r : Sheet) (is : r ≡ sheetOf (readSheet s)) where
+  -- a sheet that is refused
+  pub reply-refused : (r .code ≡ 0 → ⊥) → answerLines (refused (r .code) (r .at)) 0 ≡ printedFor (readSheet s)
+  reply-refused n = go (readSheet s) is
     where
-      go : (o : Outcome Held) → readSheet s ≡ o → reading s x y kit ≡ readSheet s
-      go (fault c l) e = ap (within (roomIn x y kit)) e ∙ sym e
-      go (accepted h) e = fits s h e (roomIn x y kit) (omega (arith, valid-even (valid-held s h e) .few)) ∙ sym e
+      go : (o : Outcome Held) → r ≡ sheetOf o → answerLines (refused (r .code) (r .at)) 0 ≡ printedFor o
+      go (fault c l) e = ap (λ (q : Sheet). answerLines (refused (q .code) (q .at)) 0) e
+      go (accepted h) e = absurd (n (ap (λ (q : Sheet). q .code) e))
 
-  module _ (r : Sheet) (is : r ≡ sheetOf (reading s x y kit)) where
-    read-is : r ≡ sheetOf (readSheet s)
-    read-is = is ∙ ap (λ (o : Outcome Held). sheetOf o) read-all
-
-    -- a sheet that is refused
-    pub reply-refused : (r .code ≡ 0 → ⊥) → answerLines (refused (r .code) (r .at)) 0 ≡ printedFor (readSheet s)
-    reply-refused n = go (readSheet s) read-is
-      where
-        go : (o : Outcome Held) → r ≡ sheetOf o → answerLines (refused (r .code) (r .at)) 0 ≡ printedFor o
-        go (fault c l) e = ap (λ (q : Sheet). answerLines (refused (q .code) (q .at)) 0) e
-        go (accepted h) e = absurd (n (ap (λ (q : Sheet). q .code) e))
-
-    -- a sheet that is accepted
-    pub took : r .code ≡ 0 → {x′ y′ : List ℤ} {kit′ : List ℕ} →
-        x′ ≡ columnAfter (λ h. h .table .x) (reading s x y kit) x → y′ ≡ columnAfter (λ h. h .table .y) (reading s x y kit) y → kit′ ≡ columnAfter (λ h. h .table .kit) (reading s x y kit) kit →
-        Took s r x′ y′ kit′
-    took z e f g =
-        let a = is-accepted s r read-is z in
-        let h = a .0 in
-        let n : r .places ≡ places (h .table) = ap (λ (q : Sheet). q .places) (a .1 .1) in
-        let even = valid-even (valid-held s h (a .1 .0)) in
-        let all = read-all ∙ a .1 .0 in
-        let cx = e ∙ ap (λ (o : Outcome Held). columnAfter (λ h. h .table .x) o x) all in
-        let cy = f ∙ ap (λ (o : Outcome Held). columnAfter (λ h. h .table .y) o y) all in
-        let ck = g ∙ ap (λ (o : Outcome Held). columnAfter (λ h. h .table .kit) o kit) all in
-        record {
-          held = h;
-          is = a .1 .0;
-          result = a .1 .1;
-          valid = valid-held s h (a .1 .0);
-          x = filled (h .table .x) x cx (sym n);
-          y = filled (h .table .y) y cy (even .y ∙ sym n);
-          kit = filled (h .table .kit) kit ck (even .kit ∙ sym n);
-        }
+  -- a sheet that is accepted
+  pub took : r .code ≡ 0 → (x x′ y y′ : List ℤ) (kit kit′ : List ℕ) → columnTaken (λ h. h .table .x) (readSheet s) x x′ →
+      columnTaken (λ h. h .table .y) (readSheet s) y y′ → columnTaken (λ h. h .table .kit) (readSheet s) kit kit′ → Took s r x′ y′ kit′
+  took z x x′ y y′ kit kit′ e f g =
+      let a = is-accepted s r is z in
+      let h = a .0 in
+      let n : r .places ≡ places (h .table) = ap (λ (q : Sheet). q .places) (a .1 .1) in
+      let even = valid-even (valid-held s h (a .1 .0)) in
+      record {
+        held = h;
+        is = a .1 .0;
+        result = a .1 .1;
+        valid = valid-held s h (a .1 .0);
+        x = filled (h .table .x) x (subst (λ (o : Outcome Held). columnTaken (λ h. h .table .x) o x x′) (a .1 .0) e) (sym n);
+        y = filled (h .table .y) y (subst (λ (o : Outcome Held). columnTaken (λ h. h .table .y) o y y′) (a .1 .0) f) (even .y ∙ sym n);
+        kit = filled (h .table .kit) kit (subst (λ (o : Outcome Held). columnTaken (λ h. h .table .kit) o kit kit′) (a .1 .0) g) (even .kit ∙ sym n);
+      }

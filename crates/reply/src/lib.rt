@@ -105,7 +105,7 @@ fn reply_in(input: &[u8], x: &mut [i32], y: &mut [i32], kit: &mut [u64], out: &m
     ensures { λ r. ⌜ r ≡ laid (printedFor (readSheet (now (input .entry)))) (now (out .entry)) ⌝ }
     ensures { λ _. ⌜ now (out .exit) ≡ holding (printedFor (readSheet (now (input .entry)))) (now (out .entry)) ⌝ }
 {
-    let s = sheet::read(input, x, y, kit);
+    let s = sheet::take_in(input, x, y, kit);
     if s.code != 0 {
         return answer::lines(search::refuse(s.code, s.at), 0, out);
     }

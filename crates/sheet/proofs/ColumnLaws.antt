@@ -1,15 +1,15 @@
 -- A column that is filled from the front, one place a turn.
 -- Assumes nothing.
 use Prim.Native.Nat.{ℕ, suc, _+_, _<_}
-use mathlib.Core.Path.{_≡_, refl, ap, ap₂, sym, _∙_}
+use mathlib.Core.Path.{_≡_, refl, ap, ap₂, sym, subst, _∙_}
 use mathlib.Core.List.{List, [], _∷_, _++_, map, append-assoc}
 use native.Mathlib.Numerals.{add-one}
 use lib.ListN.{length, drop, set, length-map, length-set}
 use lib.Seq.{drop-cons, set-at}
-use Rattle.lines.specs.Line.{Got, got}
+use Rattle.lines.specs.Line.{Got, refused, got}
 use Rattle.table.specs.Table.{Table}
 use Rattle.sheet.specs.Sheet.{Place, xOf, yOf, wordOf}
-use Rattle.sheet.specs.Read.{filled}
+use Rattle.sheet.specs.Read.{stored}
 
 map-snoc : {A B : Type 0} (f : A → B) (l : List A) (a : A) → map f (l ++ (a ∷ [])) ≡ map f l ++ (f a ∷ [])
 map-snoc f [] a = refl
@@ -41,7 +41,10 @@ pub record Columns (l : List Place) (i : ℕ) (t₀ t : Table) : Type 0 where
   pub y : Column yOf l i (t₀ .y) (t .y)
   pub kit : Column wordOf l i (t₀ .kit) (t .kit)
 
--- the filled column, when all places are passed
-pub column-filled : {B : Type 0} (f : Place → B) (g : Got (List Place)) (l : List Place) (r : List ℕ) (i : ℕ) (col₀ col : List B) → g ≡ got l r → length l ≡ i → Column f l i col₀ col → col ≡ filled f g col₀
-column-filled f g l r i col₀ col e n c =
-    c .is ∙ ap (λ (k : ℕ). map f l ++ drop k col₀) (sym n ∙ sym (length-map l f)) ∙ sym (ap (λ (g : Got (List Place)). filled f g col₀) e)
+-- what is said of a column, when all places are passed and in a refusal
+pub column-stored : {B : Type 0} (f : Place → B) (g : Got (List Place)) (l : List Place) (r : List ℕ) (i : ℕ) (col₀ col : List B) → g ≡ got l r → length l ≡ i → Column f l i col₀ col → stored f g col₀ col
+column-stored f g l r i col₀ col e n c =
+    subst (λ (g : Got (List Place)). stored f g col₀ col) (sym e) (c .is ∙ ap (λ (k : ℕ). map f l ++ drop k col₀) (sym n ∙ sym (length-map l f)))
+
+pub column-unsaid : {B : Type 0} (f : Place → B) (g : Got (List Place)) (c l : ℕ) (col₀ col : List B) → g ≡ refused c l → stored f g col₀ col
+column-unsaid f g c l col₀ col e = subst (λ (g : Got (List Place)). stored f g col₀ col) (sym e) tt

@@ -15,7 +15,7 @@ use Rattle.lines.specs.Part.{andThen, after, several, Outcome, fault, accepted}
 use Rattle.lines.proofs.CodeLaws.{Codes, codes-line, codes-then, codes-viewed, codes-after, codes-before, codes-several, codes-all}
 use Rattle.sheet.specs.declared.Sheet.{Sheet}
 use Rattle.sheet.specs.Sheet.{Held, Writable, Place, fixed, coordinateLine, kitLine, pointPart, placePart, wantLine, budgetLine, queryPart, countLine, bodyPart, xOf, yOf, wordOf, columns, held, counted, sheetPart, sheetBytes, readSheet}
-use Rattle.sheet.specs.Read.{within, sheetOf, columnAfter, headPart, passed, Fine, filled}
+use Rattle.sheet.specs.Read.{within, sheetOf, columnAfter, columnTaken, headPart, passed, Fine, stored}
 use Rattle.sheet.specs.Lent.{over}
 use Rattle.sheet.proofs.SheetLaws.{read-written, written-read}
 use Rattle.sheet.proofs.ScanLaws.{scan-1, scan-2, scan-3, scan-53, scan-accepted, found, found-read, many}
@@ -133,25 +133,35 @@ module _ (s : List ℕ) (h : Held) (e : readSheet s ≡ accepted h) where
         go (refused c l) g = absurd (no-fault c l (scan-2 s p r f c l g))
         go (got u r2) g = stand r2 g
 
-    pub places-fine : Fine (several placePart p 0 .read 3 r)
-    places-fine = subst Fine (sym (stands .read)) tt
+    -- and the columns have them
+    module _ {A : Type 0} (of : Place → A) (col : Table → List A) (same : (l : List Place) → map of l ≡ col (columns l)) (x x′ : List A) (q : stored of (several placePart p 0 .read 3 r) x x′) where
+      pub column-holds : x′ ≡ over (col (h .table)) x
+      column-holds =
+          subst (λ (g : Got (List Place)). stored of g x x′) (stands .read) q
+          ∙ ap (λ (u : List A). over u x) (same (stands .list) ∙ ap col (sym (stands .table)))
 
-    -- and the columns are filled with them
-    module _ (room : ℕ) (enough : places (h .table) ≤ room) where
-      column : {A : Type 0} (f : Place → A) (col : Table → List A) → ((l : List Place) → map f l ≡ col (columns l)) → (x x′ : List A) → x′ ≡ filled f (several placePart p 0 .read 3 r) x → x′ ≡ columnAfter (λ h. col (h .table)) (within room (readSheet s)) x
-      column f col same x x′ q =
-          q
-          ∙ ap (λ (g : Got (List Place)). filled f g x) (stands .read)
-          ∙ ap (λ (u : List _). over u x) (same (stands .list) ∙ ap col (sym (stands .table)))
-          ∙ sym (ap (λ (o : Outcome Held). columnAfter (λ h. col (h .table)) o x) (fits room enough))
+      column : (room : ℕ) → places (h .table) ≤ room → x′ ≡ columnAfter (λ h. col (h .table)) (within room (readSheet s)) x
+      column room enough = column-holds ∙ sym (ap (λ (o : Outcome Held). columnAfter (λ h. col (h .table)) o x) (fits room enough))
 
-      pub done-read : (a : Sheet) (x y : List ℤ) (k : List ℕ) (x′ y′ : List ℤ) (k′ : List ℕ) → a ≡ sheetOf (accepted h) →
-          (x′ ≡ filled xOf (several placePart p 0 .read 3 r) x) × ((y′ ≡ filled yOf (several placePart p 0 .read 3 r) y) × (k′ ≡ filled wordOf (several placePart p 0 .read 3 r) k)) →
-          Done (within room (readSheet s)) a x y k x′ y′ k′
-      done-read a x y k x′ y′ k′ q w = (
-        q ∙ ap (λ (o : Outcome Held). sheetOf o) (sym (fits room enough)),
-        (column xOf (λ t. t .x) (λ l. refl) x x′ (w .0), (column yOf (λ t. t .y) (λ l. refl) y y′ (w .1 .0), column wordOf (λ t. t .kit) (λ l. refl) k k′ (w .1 .1))),
-      )
+    pub done-read : (room : ℕ) → places (h .table) ≤ room → (a : Sheet) (x y : List ℤ) (k : List ℕ) (x′ y′ : List ℤ) (k′ : List ℕ) → a ≡ sheetOf (accepted h) →
+        stored xOf (several placePart p 0 .read 3 r) x x′ × (stored yOf (several placePart p 0 .read 3 r) y y′ × stored wordOf (several placePart p 0 .read 3 r) k k′) →
+        Done (within room (readSheet s)) a x y k x′ y′ k′
+    done-read room enough a x y k x′ y′ k′ q w = (
+      q ∙ ap (λ (o : Outcome Held). sheetOf o) (sym (fits room enough)),
+      (column xOf (λ t. t .x) (λ l. refl) x x′ (w .0) room enough, (column yOf (λ t. t .y) (λ l. refl) y y′ (w .1 .0) room enough, column wordOf (λ t. t .kit) (λ l. refl) k k′ (w .1 .1) room enough)),
+    )
+
+-- the same of columns that nobody looks at after a refusal
+pub taken : {A : Type 0} (s : List ℕ) (p : ℕ) (r : List ℕ) → headPart .read 1 s ≡ got p r → (of : Place → A) (col : Table → List A) → ((l : List Place) → map of l ≡ col (columns l)) →
+    (x x′ : List A) → stored of (several placePart p 0 .read 3 r) x x′ → columnTaken (λ h. col (h .table)) (readSheet s) x x′
+taken s p r f of col same x x′ q = go (readSheet s) refl
+  where
+    go : (o : Outcome Held) → readSheet s ≡ o → columnTaken (λ h. col (h .table)) o x x′
+    go (fault c l) e = tt
+    go (accepted h) e = column-holds s h e p r f of col same x x′ q
+
+pub not-taken : {A : Type 0} (o : Outcome Held) (c l : ℕ) → o ≡ fault c l → (f : Held → List A) (x x′ : List A) → columnTaken f o x x′
+not-taken o c l e f x x′ = subst (λ (o : Outcome Held). columnTaken f o x x′) (sym e) tt
 
 -- both round trips, through lent columns with room enough
 pub within-written : (h : Held) → Writable h → (room : ℕ) → places (h .table) ≤ room → within room (readSheet (sheetBytes h)) ≡ accepted h

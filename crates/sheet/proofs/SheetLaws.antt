@@ -11,9 +11,10 @@ use Rattle.table.specs.Table.{Table, places}
 use Rattle.table.proofs.TableLaws.{valid-even}
 use Rattle.lines.specs.Text.{ascii, decimal}
 use Rattle.lines.specs.Form.{word, natural, coordinate, bits}
+use Rattle.lines.specs.Line.{clear, fair}
 use Rattle.lines.specs.Part.{andThen, after, several, accepted}
-use Rattle.lines.proofs.FormLaws.{clear, every-clear, sound-word, sound-decimal, sound-natural, sound-coordinate, sound-bits}
-use Rattle.lines.proofs.PartLaws.{Lawful, both, fair, lawful-line, lawful-then, lawful-after, lawful-before, lawful-several, lawful-viewed, all-back, all-whole}
+use Rattle.lines.proofs.FormLaws.{every-clear, sound-word, sound-decimal, sound-natural, sound-coordinate, sound-bits}
+use Rattle.lines.proofs.PartLaws.{Lawful, both, lawful-line, lawful-then, lawful-after, lawful-before, lawful-several, lawful-viewed, all-back, all-whole}
 use Rattle.sheet.specs.Sheet.{Held, Writable, Place, fixed, coordinateLine, kitLine, pointPart, placePart, wantLine, budgetLine, queryPart, countLine, bodyPart, xOf, columns, held, counted, sheetPart, sheetBytes, readSheet}
 use Rattle.sheet.proofs.RowLaws.{several-length, rows-columns, valid-columns, valid-fits, fits-valid, fits-kits}
 

@@ -1,17 +1,18 @@
 -- What reading a place sheet into lent columns comes to.
 -- Assumes nothing.
-use Prim.Native.Nat.{ℕ, min}
+use Prim.Native.Nat.{ℕ, _≤_, min}
+use mathlib.Core.Path.{_≡_}
 use mathlib.Core.List.{List, map}
 use native.Mathlib.Decide.{decLe}
 use lib.IntN.{ℤ}
-use lib.ListN.{length}
+use lib.ListN.{length, drop}
 use Rattle.table.specs.Table.{places}
 use Rattle.lines.specs.Text.{ascii}
 use Rattle.lines.specs.Line.{Got, refused, got}
 use Rattle.lines.specs.Part.{Part, after, Outcome, fault, accepted}
 use Rattle.sheet.specs.declared.Sheet.{Sheet}
 use Rattle.sheet.specs.Lent.{over}
-use Rattle.sheet.specs.Sheet.{Held, Place, fixed, countLine, readSheet}
+use Rattle.sheet.specs.Sheet.{Held, Place, fixed, placePart, countLine, readSheet}
 
 -- how many places there is room for in each of the lent columns
 abbrev pub roomIn : List ℤ → List ℤ → List ℕ → ℕ
@@ -50,7 +51,17 @@ abbrev pub Fine : {A : Type 0} → Got A → Type 0
 Fine (refused c l) = ⊥
 Fine (got a rest) = Unit {0}
 
--- a column with what the places that were read say
-abbrev pub filled : {A : Type 0} → (Place → A) → Got (List Place) → List A → List A
-filled f (refused c l) before = before
-filled f (got l rest) before = over (map f l) before
+-- a column afterwards that has what the places say, if they were read well; nothing is said of it in a refusal
+abbrev pub stored : {A : Type 0} → (Place → A) → Got (List Place) → List A → List A → Type 0
+stored f (refused c l) before after = Unit {0}
+stored f (got l rest) before after = after ≡ over (map f l) before
+
+-- the same of a whole sheet
+abbrev pub columnTaken : {A : Type 0} → (Held → List A) → Outcome Held → List A → List A → Type 0
+columnTaken f (fault c l) before after = Unit {0}
+columnTaken f (accepted h) before after = after ≡ over (f h) before
+
+-- the lines of place i, which begin at `at`, read well, whatever the number of the first; the next line begins at `to`
+pub record PlaceReads (s : List ℕ) (at i to : ℕ) (p : Place) : Type 0 where
+  pub most : to ≤ length s
+  pub read : (n : ℕ) → placePart i .read n (drop at s) ≡ got p (drop to s)

@@ -1,5 +1,6 @@
 // The place sheet: written into a lent buffer, and read into lent columns.
 ghost use mathlib.Core.Path.{_≡_};
+ghost use mathlib.Core.Bool.{true, false};
 ghost use mathlib.Core.List.{List};
 ghost use Prim.Native.Nat.{ℕ, _+_, _≤_, _<_, min};
 ghost use lib.ListN.{length, drop};
@@ -8,7 +9,7 @@ ghost use Rattle.lines.specs.Line.{got};
 ghost use Rattle.lines.specs.Part.{several, fault};
 ghost use Rattle.lines.specs.Readers.{Read};
 ghost use Rattle.sheet.specs.Sheet.{placePart, queryPart, xOf, yOf, wordOf, readSheet, sheetBytes};
-ghost use Rattle.sheet.specs.Read.{headPart, passed, Fine, filled, reading, sheetOf, columnAfter};
+ghost use Rattle.sheet.specs.Read.{headPart, passed, stored, reading, sheetOf, columnAfter, columnTaken, PlaceReads};
 ghost use Rattle.verdict.specs.Rules.{says, verdict};
 ghost use Rattle.table.specs.Table.{table, Even};
 ghost use Rattle.print.specs.Puts.{Puts};
@@ -253,8 +254,65 @@ fn no_place(code: u8, at: usize) -> PlaceLines
     }
 }
 
-// Place i, whose first line is number `line` and begins at `at`.
-fn place_at(src: &[u8], at: usize, i: usize, line: usize) -> PlaceLines
+// A place whose lines were read in one go. Where `ok` is false the rest says nothing, and no fault is found.
+struct QuickPlace {
+    ok: bool,
+    next: usize,
+    x: i32,
+    y: i32,
+    kit: u64,
+}
+
+fn not_quick() -> QuickPlace
+    ensures { λ r. ⌜ r .ok ≡ false ⌝ }
+{
+    QuickPlace {
+        ok: false,
+        next: 0,
+        x: 0,
+        y: 0,
+        kit: 0,
+    }
+}
+
+// Place i, whose lines begin at `at`, if they are read in one go: nearly all are.
+fn quick_place(src: &[u8], at: usize, i: usize) -> QuickPlace
+    requires { ⌜ (at ≤ length (now src)) × (i < 4096) ⌝ }
+    ensures { λ r. ⌜ (r .ok ≡ true → PlaceReads (now (src .entry)) at i (r .next) (r .x, (r .y, r .kit))) ⌝ }
+{
+    let a = lines::quick_number(&src[at..], b"place=", 4095);
+    if !a.ok {
+        return not_quick();
+    }
+    if a.value != i as u64 {
+        return not_quick();
+    }
+    let east = at + a.count;
+    let b = lines::quick_coordinate(&src[east..], b"x=");
+    if !b.ok {
+        return not_quick();
+    }
+    let north = east + b.count;
+    let c = lines::quick_coordinate(&src[north..], b"y=");
+    if !c.ok {
+        return not_quick();
+    }
+    let word = north + c.count;
+    let d = lines::quick_bits(&src[word..], b"kit=");
+    if !d.ok {
+        return not_quick();
+    }
+    QuickPlace {
+        ok: true,
+        next: word + d.count,
+        x: b.value,
+        y: c.value,
+        kit: d.value,
+    }
+}
+
+// The same, line by line: what is refused, and where.
+fn careful_place(src: &[u8], at: usize, i: usize, line: usize) -> PlaceLines
     requires { ⌜ (at ≤ length (now src)) × ((i < 4096) × (line ≤ 16390)) ⌝ }
     ensures { λ r. ⌜ Read (now (src .entry)) (placePart i .read line (drop at (now (src .entry)))) 0 (pos 0, (pos 0, 0)) (r .code) (r .at) (r .next) (r .x, (r .y, r .kit)) ⌝ }
 {
@@ -287,6 +345,25 @@ fn place_at(src: &[u8], at: usize, i: usize, line: usize) -> PlaceLines
     }
 }
 
+// Place i, whose first line is number `line` and begins at `at`.
+fn place_at(src: &[u8], at: usize, i: usize, line: usize) -> PlaceLines
+    requires { ⌜ (at ≤ length (now src)) × ((i < 4096) × (line ≤ 16390)) ⌝ }
+    ensures { λ r. ⌜ Read (now (src .entry)) (placePart i .read line (drop at (now (src .entry)))) 0 (pos 0, (pos 0, 0)) (r .code) (r .at) (r .next) (r .x, (r .y, r .kit)) ⌝ }
+{
+    let q = quick_place(src, at, i);
+    if !q.ok {
+        return careful_place(src, at, i, line);
+    }
+    PlaceLines {
+        code: 0,
+        at: 0,
+        next: q.next,
+        x: q.x,
+        y: q.y,
+        kit: q.kit,
+    }
+}
+
 // The first pass over the places, which begin at `at` and line 3: nothing is stored.
 fn places_at(src: &[u8], at: usize, places: usize) -> PlacesLines
     requires { ⌜ (at ≤ length (now src)) × (places ≤ 4096) ⌝ }
@@ -313,19 +390,33 @@ fn places_at(src: &[u8], at: usize, places: usize) -> PlacesLines
     }
 }
 
-// The second pass, which stores what the first has found in order.
-fn fill(src: &[u8], at: usize, places: usize, x: &mut [i32], y: &mut [i32], kit: &mut [u64])
+// A pass over the places that stores each of them, up to a refusal.
+fn fill(
+    src: &[u8],
+    at: usize,
+    places: usize,
+    x: &mut [i32],
+    y: &mut [i32],
+    kit: &mut [u64],
+) -> PlacesLines
     requires { ⌜ (at ≤ length (now src)) × (places ≤ 4096) ⌝ }
     requires { ⌜ (places ≤ length (now x)) × ((places ≤ length (now y)) × (places ≤ length (now kit))) ⌝ }
-    requires { ⌜ Fine (several placePart places 0 .read 3 (drop at (now src))) ⌝ }
-    ensures { λ _. ⌜ now (x .exit) ≡ filled xOf (several placePart places 0 .read 3 (drop at (now (src .entry)))) (now (x .entry)) ⌝ }
-    ensures { λ _. ⌜ now (y .exit) ≡ filled yOf (several placePart places 0 .read 3 (drop at (now (src .entry)))) (now (y .entry)) ⌝ }
-    ensures { λ _. ⌜ now (kit .exit) ≡ filled wordOf (several placePart places 0 .read 3 (drop at (now (src .entry)))) (now (kit .entry)) ⌝ }
+    ensures { λ r. ⌜ Read (now (src .entry)) (passed (several placePart places 0 .read 3 (drop at (now (src .entry))))) 0 tt (r .code) (r .at) (r .next) tt ⌝ }
+    ensures { λ _. ⌜ stored xOf (several placePart places 0 .read 3 (drop at (now (src .entry)))) (now (x .entry)) (now (x .exit)) ⌝ }
+    ensures { λ _. ⌜ stored yOf (several placePart places 0 .read 3 (drop at (now (src .entry)))) (now (y .entry)) (now (y .exit)) ⌝ }
+    ensures { λ _. ⌜ stored wordOf (several placePart places 0 .read 3 (drop at (now (src .entry)))) (now (kit .entry)) (now (kit .exit)) ⌝ }
 {
     let mut from = at;
     let mut i = 0;
     while i < places {
         let p = place_at(src, from, i, 3 + 4 * i);
+        if p.code != 0 {
+            return PlacesLines {
+                code: p.code,
+                at: p.at,
+                next: 0,
+            };
+        }
         let east = p.x;
         let north = p.y;
         x[i] = east;
@@ -333,6 +424,11 @@ fn fill(src: &[u8], at: usize, places: usize, x: &mut [i32], y: &mut [i32], kit:
         kit[i] = p.kit;
         from = p.next;
         i += 1;
+    }
+    PlacesLines {
+        code: 0,
+        at: 0,
+        next: from,
     }
 }
 
@@ -349,12 +445,11 @@ fn refused(code: u8, at: usize) -> Sheet
     }
 }
 
-// All that follows the head, which ends at `at` and says how many places there are: nothing is stored.
-fn rest_at(src: &[u8], at: usize, places: usize) -> Sheet
-    requires { ⌜ (at ≤ length (now src)) × (headPart .read 1 (now src) ≡ got places (drop at (now src))) ⌝ }
+// All that follows the places, of which p tells.
+fn ending(src: &[u8], p: PlacesLines, places: usize) -> Sheet
+    requires { ⌜ ((r : List ℕ) × ((headPart .read 1 (now src) ≡ got places r) × Read (now src) (passed (several placePart places 0 .read 3 r)) 0 tt (p .code) (p .at) (p .next) tt)) ⌝ }
     ensures { λ r. ⌜ r ≡ sheetOf (readSheet (now (src .entry))) ⌝ }
 {
-    let p = places_at(src, at, places);
     if p.code != 0 {
         return refused(p.code, p.at);
     }
@@ -372,6 +467,14 @@ fn rest_at(src: &[u8], at: usize, places: usize) -> Sheet
         want: q.want,
         budget: q.budget,
     }
+}
+
+// All that follows the head, which ends at `at` and says how many places there are: nothing is stored.
+fn rest_at(src: &[u8], at: usize, places: usize) -> Sheet
+    requires { ⌜ (at ≤ length (now src)) × (headPart .read 1 (now src) ≡ got places (drop at (now src))) ⌝ }
+    ensures { λ r. ⌜ r ≡ sheetOf (readSheet (now (src .entry))) ⌝ }
+{
+    ending(src, places_at(src, at, places), places)
 }
 
 // The sheet reader: the caller's bytes, and how far it has come.
@@ -460,4 +563,20 @@ pub fn read(src: &[u8], x: &mut [i32], y: &mut [i32], kit: &mut [u64]) -> Sheet
     let h = head_of(src);
     fill(src, h.next, h.places, x, y, kit);
     r
+}
+
+// Internal: reads a sheet in one pass, into columns with room for every table that nobody looks at after a refusal.
+pub fn take_in(src: &[u8], x: &mut [i32], y: &mut [i32], kit: &mut [u64]) -> Sheet
+    requires { ⌜ (4096 ≤ length (now x)) × ((4096 ≤ length (now y)) × (4096 ≤ length (now kit))) ⌝ }
+    ensures { λ r. ⌜ r ≡ sheetOf (readSheet (now (src .entry))) ⌝ }
+    ensures { λ _. ⌜ columnTaken (λ h. h .table .x) (readSheet (now (src .entry))) (now (x .entry)) (now (x .exit)) ⌝ }
+    ensures { λ _. ⌜ columnTaken (λ h. h .table .y) (readSheet (now (src .entry))) (now (y .entry)) (now (y .exit)) ⌝ }
+    ensures { λ _. ⌜ columnTaken (λ h. h .table .kit) (readSheet (now (src .entry))) (now (kit .entry)) (now (kit .exit)) ⌝ }
+{
+    let h = head_of(src);
+    if h.code != 0 {
+        return refused(h.code, h.at);
+    }
+    let p = fill(src, h.next, h.places, x, y, kit);
+    ending(src, p, h.places)
 }

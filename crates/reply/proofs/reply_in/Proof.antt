@@ -14,17 +14,17 @@ use Rattle.reply.proofs.reply_in.Statement.{statement}
 use Rattle.reply.proofs.reply_in.Tie as tie
 
 -- where the sheet was read
-abbrev first : tie.After-read → tie.Start
+abbrev first : tie.After-take-in → tie.Start
 first c = c .before .before .before .before .before .before .before
 
-took-in : (c : tie.Else1) → let d : tie.After-read = c .before .before .before .before .before .before in Took (first d .args .input .now) (d .read .result) (d .read .last .1 .0) (d .read .last .1 .1 .0) (d .read .last .1 .1 .1 .0)
+took-in : (c : tie.Else1) → let d : tie.After-take-in = c .before .before .before .before .before .before in Took (first d .args .input .now) (d .take-in .result) (d .take-in .last .1 .0) (d .take-in .last .1 .1 .0) (d .take-in .last .1 .1 .1 .0)
 took-in c =
-    let d : tie.After-read = c .before .before .before .before .before .before in
+    let d : tie.After-take-in = c .before .before .before .before .before .before in
     let a = first d .args in
-    took (a .input .now) (a .x .now) (a .y .now) (a .kit .now) (first d .pre) (d .read .result) (d .read .ensures .0) (c .if1 .left) (d .read .ensures .1 .0) (d .read .ensures .1 .1 .0) (d .read .ensures .1 .1 .1)
+    took (a .input .now) (d .take-in .result) (d .take-in .ensures .0) (c .if1 .left) (a .x .now) _ (a .y .now) _ (a .kit .now) _ (d .take-in .ensures .1 .0) (d .take-in .ensures .1 .1 .0) (d .take-in .ensures .1 .1 .1)
 
-read-requires : tie.Need-read-requires
-read-requires c κs = search needs
+take-in-requires : tie.Need-take-in-requires
+take-in-requires c κs = search needs
 
 refuse-requires : tie.Need-refuse-requires
 refuse-requires c κs = search needs
@@ -48,10 +48,10 @@ returns : tie.Need-returns
 returns c =
     let l : tie.After-lines = c .before .before in
     let t : tie.Then1 = l .before .before .before in
-    let d : tie.After-read = t .before .before .before .before .before .before in
+    let d : tie.After-take-in = t .before .before .before .before .before .before in
     let a = first d .args in
     let is : answerLines (l .before .before .refuse .result) 0 ≡ printedFor (readSheet (a .input .now)) =
-    ap (λ (f : Found). answerLines f 0) (l .before .before .refuse .ensures) ∙ reply-refused (a .input .now) (a .x .now) (a .y .now) (a .kit .now) (first d .pre) (d .read .result) (d .read .ensures .0) (t .if1 .taken) in
+    ap (λ (f : Found). answerLines f 0) (l .before .before .refuse .ensures) ∙ reply-refused (a .input .now) (d .take-in .result) (d .take-in .ensures .0) (t .if1 .taken) in
     (l .lines .ensures .0 ∙ ap (λ (b : List ℕ). laid b (a .out .now)) is, l .lines .ensures .1 ∙ ap (λ (b : List ℕ). holding b (a .out .now)) is)
 
 slice-reshare-prefix-search-table : tie.Need-slice-reshare-prefix-search-table
@@ -103,7 +103,7 @@ pub reply-in-spec : {M : Type 1} → statement M
 reply-in-spec =
     tie.close
     (tie.spec
-    read-requires
+    take-in-requires
     refuse-requires
     lines-requires
     same-length

@@ -11,7 +11,7 @@ use Rattle.sheet.specs.Sheet.{Held, readSheet}
 use Rattle.sheet.specs.Read.{roomIn, sheetOf, headPart}
 use Rattle.sheet.proofs.HeadLaws.{head-few}
 use Rattle.sheet.proofs.SeveralLaws.{fine-code}
-use Rattle.sheet.proofs.ReadingLaws.{done-refused, is-accepted, done-54, head-fine, stands, places-fine, done-read}
+use Rattle.sheet.proofs.ReadingLaws.{done-refused, is-accepted, done-54, head-fine, stands, done-read}
 use borrow.Author.Needs.{needs}
 use Rattle.sheet.proofs.read.Statement.{statement}
 use Rattle.sheet.proofs.read.Tie as tie
@@ -75,7 +75,7 @@ fill-requires c κs =
     let h = held (passed b) in
     let w = stands _ (h .0) (h .1 .0) _ _ (head b .0) .many in
     let e = enough b in
-    ((head b .1, head-few _ _ _ _ (head b .0)), ((omega (arith, w, e), (omega (arith, w, e), omega (arith, w, e))), places-fine _ (h .0) (h .1 .0) _ _ (head b .0)))
+    ((head b .1, head-few _ _ _ _ (head b .0)), (omega (arith, w, e), (omega (arith, w, e), omega (arith, w, e))))
 
 same-length : tie.Need-same-length
 same-length c = search needs
@@ -91,7 +91,7 @@ returns-3 c =
     let f = c .before .before .before .before in
     let b = f .before .before .before .before in
     let h = held (passed b) in
-    done-read _ (h .0) (h .1 .0) _ _ (head b .0) _ (enough b) _ _ _ _ _ _ _ (h .1 .1) (f .fill .ensures)
+    done-read _ (h .0) (h .1 .0) _ _ (head b .0) _ (enough b) _ _ _ _ _ _ _ (h .1 .1) (f .fill .ensures .1)
 
 pub read-spec : {M : Type 1} → statement M
 read-spec =

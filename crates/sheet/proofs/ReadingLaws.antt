@@ -82,7 +82,7 @@ module _ (s : List ℕ) (h : Held) (e : readSheet s ≡ accepted h) where
       go (yes l) = absurd (omega arith)
       go (no _) = refl
 
-  pub fits : (room : ℕ) → places (h .table) ≤ room → within room (readSheet s) ≡ accepted h
+  fits : (room : ℕ) → places (h .table) ≤ room → within room (readSheet s) ≡ accepted h
   fits room l = ap (within room) e ∙ go (decLe (places (h .table)) room)
     where
       go : (d : Dec (places (h .table) ≤ room)) → elim d [ yes _ ↦ accepted h | no _ ↦ fault 54 0 ] ≡ accepted h
@@ -135,7 +135,7 @@ module _ (s : List ℕ) (h : Held) (e : readSheet s ≡ accepted h) where
 
     -- and the columns have them
     module _ {A : Type 0} (of : Place → A) (col : Table → List A) (same : (l : List Place) → map of l ≡ col (columns l)) (x x′ : List A) (q : stored of (several placePart p 0 .read 3 r) x x′) where
-      pub column-holds : x′ ≡ over (col (h .table)) x
+      column-holds : x′ ≡ over (col (h .table)) x
       column-holds =
           subst (λ (g : Got (List Place)). stored of g x x′) (stands .read) q
           ∙ ap (λ (u : List A). over u x) (same (stands .list) ∙ ap col (sym (stands .table)))

@@ -7,6 +7,7 @@ use Prim.Native.Nat.{ℕ, _+_}
 use lib.Dec.{ltb}
 use Rattle.walks.specs.Allowance.{Stand, stand, step, advance}
 use Rattle.walks.specs.Walk.{final, chain}
+use Rattle.walk.specs.State.{ahead}
 
 module _ {K : Type 0} (a : ℕ) where
   advance-append : (l k : List K) (w : Stand K) → advance a (l ++ k) w ≡ advance a k (advance a l w)
@@ -42,10 +43,6 @@ module _ {K : Type 0} (a : ℕ) where
       go : (u : Bool) → step a k w .spent ≡ u → u ≡ false
       go true p = sym p ∙ sym (ap (λ (z : Stand K). z .spent) (stays l (step a k w) p)) ∙ e
       go false p = refl
-
--- the walk over some candidates, each taken by g, from where it stands
-abbrev pub ahead : {C K : Type 0} → ℕ → (C → K → List K) → List C → Stand K → Stand K
-ahead a g cs w = advance a (chain g cs (w .known)) w
 
 module _ {C K : Type 0} (a : ℕ) (g : C → K → List K) where
   pub ahead-none : (w : Stand K) → ahead a g [] w ≡ w

@@ -12,6 +12,7 @@ use Rattle.kit.specs.Kit.{padded}
 use Rattle.table.specs.Table.{Table, places}
 use Rattle.tree.specs.Tree.{Tree, Thing}
 use Rattle.tree.proofs.TreeLaws.{Meets}
+use Rattle.members.specs.Best.{improved}
 use Rattle.walks.specs.Allowance.{Stand, stand, advance}
 use Rattle.walks.specs.Best.{boundBy, improve, best}
 use Rattle.walks.specs.Order.{firstBy, before}
@@ -24,8 +25,8 @@ use Rattle.closest.specs.Walk.{holds, boxes, roots, wholeWalk, begins, standsAt
 use Rattle.closest.proofs.CandidateLaws.{group-is}
 use Rattle.closest.proofs.ReachLaws.{Fine, closed}
 use Rattle.closest.proofs.AnswerLaws.{sound, begun-of, roots-fine}
-use Rattle.walk.specs.State.{bestOf, stateOf, improved, boundOf, kept, walkBest, standOf}
-use Rattle.walk.specs.declared.Best.{Best}
+use Rattle.walk.specs.State.{bestOf, stateOf, boundOf, kept, walkBest}
+use Rattle.members.specs.declared.Best.{Best}
 use Rattle.walk.specs.declared.State.{State}
 
 -- zeros behind do not change which of two groups of one size comes first
@@ -99,6 +100,6 @@ module _ {t : Table} {tree : Tree} (m : Meets t tree) (kinds : List ℕ) where
     stated : Stand Best → State
     stated w = record { steps = w .steps; spent = w .spent; best = w .known }
 
-    pub stood : (a : ℕ) (r : State) → standOf r ≡ advance a (walkBest t tree kinds (roots kinds) (bestOf t none)) (stand 0 false (bestOf t none)) → r ≡ stateOf t (standsAt t tree kinds a)
+    pub stood : (a : ℕ) (w : Stand Best) → w ≡ advance a (walkBest t tree kinds (roots kinds) (bestOf t none)) (stand 0 false (bestOf t none)) → record { steps = w .steps; spent = w .spent; best = w .known } ≡ stateOf t (standsAt t tree kinds a)
     unfolding stated
-    stood a r q = ap stated (q ∙ ap (λ (w : List Best). advance a w (stand 0 false (bestOf t none))) whole ∙ advances a _ (bestOf t none) ∙ map-stopped (bestOf t) a (wholeWalk t tree kinds) none)
+    stood a w q = ap stated (q ∙ ap (λ (v : List Best). advance a v (stand 0 false (bestOf t none))) whole ∙ advances a _ (bestOf t none) ∙ map-stopped (bestOf t) a (wholeWalk t tree kinds) none)

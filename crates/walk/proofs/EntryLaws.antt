@@ -5,13 +5,14 @@ use mathlib.Core.Bool.{Bool, true, false, true≢false}
 use Prim.Native.Nat.{ℕ, suc, _+_, _≤_, _<_}
 use native.Mathlib.Omega.{arith}
 use lib.ListN.{length}
-use Rattle.plane.specs.Plane.{Ranged}
+use Rattle.plane.specs.Plane.{Within, Ranged}
 use Rattle.table.specs.Table.{Table, places}
 use Rattle.table.proofs.TableLaws.{valid-even, valid-ranged}
 use Rattle.tree.specs.Tree.{Tree, Stands, startOf, countOf, levelOf, Thing, place, node, thing, named, level, boxOf}
 use Rattle.tree.proofs.OwnerLaws.{named-is, run-within}
 use Rattle.tree.proofs.BelowLaws.{known}
 use Rattle.tree.proofs.TreeLaws.{Meets, meets-of, linked, entry-level}
+use Rattle.tree.proofs.TreeLaws as tree-laws
 use Rattle.tree.proofs.RangeLaws.{node-ranged}
 use Rattle.closest.specs.Candidate.{entry}
 use Rattle.closest.proofs.EntryLaws.{known-good}
@@ -52,6 +53,9 @@ module _ {t : Table} {tree : Tree} (p : Passes t tree) where
 
     pub entry-lower : levelOf (tree .shape) n ≡ suc (level (tree .shape) (entry (tree .shape) n k))
     entry-lower = sym (entry-level meets (startOf (tree .shape) n + k) n stands) ∙ ap (λ (x : Thing). suc (level (tree .shape) x)) entry-named
+
+    pub entry-within : Within (boxOf t (tree .sides) (entry (tree .shape) n k)) (boxOf t (tree .sides) (node n))
+    entry-within = subst (λ (x : Thing). Within (boxOf t (tree .sides) x) (boxOf t (tree .sides) (node n))) entry-named (tree-laws.entry-within meets (startOf (tree .shape) n + k) n stands)
 
     pub entry-real : Real t tree (entry (tree .shape) n k)
     entry-real = subst (Real t tree) entry-named (known-good (places t) (tree .shape) (named (tree .shape) (startOf (tree .shape) n + k)) (known (linked meets) (startOf (tree .shape) n + k) listed))

@@ -1,14 +1,14 @@
--- Laws of the walk in code.
+-- The walk meets its contracts.
 pub mod AheadLaws
 pub mod StepLaws
-pub mod HeightLaws
-pub mod BoxesLaws
-pub mod PlaceLaws
-pub mod LeadLaws
-pub mod MemberLaws
 pub mod TurnLaws
 pub mod EntryLaws
 pub mod RunLaws
+pub mod HeightLaws
+pub mod MemberLaws
+pub mod ColumnLaws
 pub mod OpenLaws
-pub mod BridgeLaws
+pub mod NextLaws
+pub mod LoopLaws
 pub mod RootLaws
+pub mod BridgeLaws

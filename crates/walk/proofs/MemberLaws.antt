@@ -14,9 +14,7 @@ use Rattle.closest.specs.Candidate.{number, member, topmost, boxesIn}
 use Rattle.closest.specs.Walk.{boxes}
 use Rattle.closest.proofs.TopLaws.{all-places}
 use Rattle.closest.proofs.DropLaws.{own-boxes}
-use Rattle.walk.specs.Members.{memberOf, membersOf, Placed, nobody, boxesOf}
-use Rattle.walk.specs.declared.Member.{Member}
-use Rattle.walk.proofs.PlaceLaws.{numbers}
+use Rattle.walk.specs.Members.{Member, memberOf, membersOf, Placed, nobody, boxesOf}
 
 -- ---- lists
 
@@ -56,8 +54,11 @@ module _ {t : Table} {w : Tree} {m : ℕ} {cand : List Member} {c : List Thing} 
   pub boxes-are : (kinds : List ℕ) → length kinds ≡ length c → boxesOf (take m cand) ≡ boxesIn (boxes t w) kinds c
   boxes-are kinds e = ap boxesOf (f .so) ∙ own t w kinds c e
 
-  pub numbers-are : numbers (take m cand) ≡ map number c
-  numbers-are = ap numbers (f .so) ∙ map-map _ _ c
+  pub numbers-are : map (λ (a : Member). a .number) (take m cand) ≡ map number c
+  numbers-are = ap (map (λ (a : Member). a .number)) (f .so) ∙ map-map _ _ c
+
+  pub levels-are : map (λ (a : Member). a .level) (take m cand) ≡ map (level (w .shape)) c
+  levels-are = ap (map (λ (a : Member). a .level)) (f .so) ∙ map-map _ _ c
 
   pub replaced-so : (i : ℕ) (y : Thing) → i < m → take m (set cand i (memberOf t w y)) ≡ membersOf t w (set c i y)
   replaced-so i y h = take-set-lt m cand i (memberOf t w y) h ∙ ap (λ l. set l i (memberOf t w y)) (f .so) ∙ set-map (memberOf t w) c i y

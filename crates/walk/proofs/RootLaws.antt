@@ -2,17 +2,22 @@
 -- Assumes nothing.
 use mathlib.Core.Path.{_≡_, refl, sym, ap, subst, _∙_}
 use mathlib.Core.List.{List, _∷_, map}
+use mathlib.Core.Option.{none}
 use Prim.Native.Nat.{ℕ, zero, suc, _≤_, _<_}
+use native.Mathlib.Decide.{decLt}
 use native.Mathlib.Omega.{arith}
 use lib.ListN.{length, take, getD, replicate, length-replicate, getD-replicate}
-use Rattle.plane.specs.Plane.{Ranged}
-use Rattle.plane.specs.declared.Box.{Box}
 use Rattle.table.specs.Table.{Table}
-use Rattle.tree.specs.Tree.{Tree, node, boxOf}
+use Rattle.order.specs.Tab.{tab}
+use Rattle.tree.specs.Tree.{Tree, place, node, level}
+use Rattle.tree.specs.Lent.{sides}
+use Rattle.closest.specs.Candidate.{member, topmost, groupOf}
 use Rattle.closest.specs.Walk.{roots}
-use Rattle.walk.specs.Members.{memberOf, membersOf, nobody, boxesOf, AllRanged, thingOf, thingsOf, Real, Fair, Passes}
-use Rattle.walk.specs.declared.Member.{Member}
-use Rattle.walk.proofs.EntryLaws.{ranged}
+use Rattle.closest.proofs.TopLaws.{topmost-is}
+use Rattle.walk.specs.Members.{Member, memberOf, membersOf, nobody, membersAt, thingOf, thingsOf, Real, Fair, Passes}
+use Rattle.walk.proofs.EntryLaws.{node-high}
+use Rattle.members.proofs.LeadLaws.{topmost-below}
+use Rattle.walk.proofs.TurnLaws.{no-group}
 use Rattle.walk.proofs.OpenLaws.{thing-of}
 
 take-replicate : {A : Type 0} (m n : ℕ) (a : A) → m ≤ n → take m (replicate n a) ≡ replicate m a
@@ -24,19 +29,9 @@ map-replicate : {A B : Type 0} (f : A → B) (m : ℕ) (a : A) → map f (replic
 map-replicate f zero a = refl
 map-replicate f (suc m) a = ap (λ l. f a ∷ l) (map-replicate f m a)
 
-ranged-replicate : (m : ℕ) (b : Box) → Ranged b → AllRanged (replicate m b)
-ranged-replicate zero b r = tt
-ranged-replicate (suc m) b r = (r, ranged-replicate m b r)
-
 module _ {t : Table} {tree : Tree} (p : Passes t tree) (some : 0 < tree .shape .nodes) (kinds : List ℕ) (m : ℕ) (few : m ≤ 8) where
   root : Member
   root = memberOf t tree (node 0)
-
-  pub boxes-roots : boxesOf (take m (replicate 8 (memberOf t tree (node 0)))) ≡ take m (replicate 8 (boxOf t (tree .sides) (node 0)))
-  boxes-roots = ap boxesOf (take-replicate m 8 _ few) ∙ map-replicate (λ (a : Member). a .at) m _ ∙ sym (take-replicate m 8 _ few)
-
-  pub ranged-roots : AllRanged (take m (replicate 8 (boxOf t (tree .sides) (node 0))))
-  ranged-roots = subst AllRanged (sym (take-replicate m 8 _ few)) (ranged-replicate m _ (ranged p (node 0) some))
 
   pub things-roots : length kinds ≡ m → thingsOf (take m (replicate 8 (memberOf t tree (node 0)))) ≡ roots kinds
   things-roots e =
@@ -56,3 +51,27 @@ module _ {t : Table} {tree : Tree} (p : Passes t tree) (some : 0 < tree .shape .
     where
       at : (i : ℕ) → i < m → getD (take m (replicate 8 (memberOf t tree (node 0)))) i nobody ≡ memberOf t tree (node 0)
       at i h = ap (λ (l : List Member). getD l i nobody) (take-replicate m 8 _ few) ∙ getD-replicate m i _ nobody h
+
+  -- it is opened at its first member
+  member-roots : (i : ℕ) → i < m → member (replicate m (node 0)) i ≡ node 0
+  member-roots i h = getD-replicate m i (node 0) (place 0) h
+
+  pub top-roots : 0 < m → topmost (tree .shape) (replicate m (node 0)) ≡ 0
+  top-roots h = go (decLt 0 (topmost (tree .shape) (replicate m (node 0))))
+    where
+      level-at : (i : ℕ) → i < m → level (tree .shape) (member (replicate m (node 0)) i) ≡ level (tree .shape) (node 0)
+      level-at i l = ap (level (tree .shape)) (member-roots i l)
+
+      go : Dec (0 < topmost (tree .shape) (replicate m (node 0))) → topmost (tree .shape) (replicate m (node 0)) ≡ 0
+      go (yes l) =
+          let below = topmost-below (tree .shape) (replicate m (node 0)) (omega (arith, h, length-replicate m (node 0))) in
+          absurd (omega (arith, topmost-is (tree .shape) (replicate m (node 0)) .leftmost 0 l, level-at 0 h, level-at (topmost (tree .shape) (replicate m (node 0))) (omega (arith, below, length-replicate m (node 0)))))
+      go (no l) = omega (arith, l)
+
+  pub whole-roots : 0 < m → groupOf (tree .shape) (replicate m (node 0)) ≡ none
+  whole-roots h = no-group (tree .shape) (replicate m (node 0)) (λ e. absurd (omega (arith, e, ap (λ (i : ℕ). level (tree .shape) (member (replicate m (node 0)) i)) (top-roots h), ap (level (tree .shape)) (member-roots 0 h), node-high p 0 some)))
+
+-- the root in each column
+pub columns-roots : (a : Member) → membersAt (replicate 8 (a .level)) (replicate 8 (a .number)) (sides (replicate 8 (a .at .x .lo)) (replicate 8 (a .at .x .hi)) (replicate 8 (a .at .y .lo)) (replicate 8 (a .at .y .hi))) ≡ replicate 8 a
+unfolding tab
+columns-roots a = refl

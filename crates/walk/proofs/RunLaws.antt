@@ -10,17 +10,16 @@ use lib.Seq.{getD-take}
 use Rattle.table.specs.Table.{Table}
 use Rattle.tree.specs.Tree.{Tree, thing, countOf}
 use Rattle.closest.specs.Candidate.{entry}
-use Rattle.walk.specs.Members.{Real, Few, Passes}
+use Rattle.walk.specs.Members.{Member, Real, Few, Passes}
 use Rattle.walk.specs.Opening.{Opens}
-use Rattle.walk.specs.declared.Member.{Member}
 use Rattle.walk.specs.declared.Opening.{Opening}
 use Rattle.walk.proofs.EntryLaws.{Reads, reads-of, entry-listed, entry-few, entry-real}
 
 -- a wanted kind is one of 64
-pub kind-small : {t : Table} {tree : Tree} (kinds : List ℕ) (m : ℕ) {cand : List Member} {o : Opening} → Opens t tree (take m kinds) m cand o → Few m kinds → o .kind < 64
+pub kind-small : {tree : Tree} (kinds : List ℕ) (m : ℕ) {cand : List Member} {o : Opening} → Opens tree (take m kinds) m cand o → Few m kinds → o .kind < 64
 kind-small kinds m {o = o} opens few = omega (arith, opens .kind ∙ getD-take m kinds (o .top) 0 (opens .inside), few .small (o .top) (opens .inside))
 
-module _ {t : Table} {tree : Tree} (p : Passes t tree) {kinds : List ℕ} {m : ℕ} {cand : List Member} {o : Opening} (opens : Opens t tree kinds m cand o) (k : ℕ) (b : k < o .many) where
+module _ {t : Table} {tree : Tree} (p : Passes t tree) {kinds : List ℕ} {m : ℕ} {cand : List Member} {o : Opening} (opens : Opens tree kinds m cand o) (k : ℕ) (b : k < o .many) where
   pub in-run : k < countOf (tree .shape) (o .node)
   in-run = omega (arith, b, opens .many)
 

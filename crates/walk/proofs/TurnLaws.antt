@@ -1,28 +1,27 @@
--- What one step leaves, by its cases.
+-- What is left to do once the candidate of an entry was taken, by its cases.
 -- Assumes nothing.
 use mathlib.Core.Path.{_≡_, refl, sym, _∙_}
-use mathlib.Core.Bool.{Bool, true, false, true≢false, _&&_}
+use mathlib.Core.Bool.{Bool, true, false}
 use mathlib.Core.List.{List, [], _∷_, map}
 use mathlib.Core.Option.{Option, none, some}
 use Prim.Native.Nat.{ℕ, suc, _+_, _≤_, _<_}
 use native.Mathlib.Omega.{arith}
-use lib.Dec.{ltb}
-use lib.ListN.{length}
+use lib.ListN.{length, getD, drop, set}
 use borrow.Author.Tests.{lt-ltb, le-ltb, eq-eqb, ne-eqb}
 use Rattle.kit.specs.Kit.{padded}
 use Rattle.table.specs.Table.{Table}
-use Rattle.tree.specs.Tree.{Tree, Shape, Thing, level}
+use Rattle.tree.specs.Tree.{Tree, Shape, Thing, node, level, countOf}
+use Rattle.members.specs.Best.{improved}
 use Rattle.walks.specs.Allowance.{Stand, stand, step, advance}
 use Rattle.walks.specs.Walk.{Scene, Memory, walk, dropped}
 use Rattle.walks.proofs.WalkLaws.{at-drop, at-group, at-open}
 use Rattle.closest.specs.Group.{spread, diameter}
-use Rattle.closest.specs.Candidate.{number, member, topmost, groupOf, scene, boxesIn, tooFar}
+use Rattle.closest.specs.Candidate.{number, member, topmost, groupOf, entry, entriesOf, scene, boxesIn, tooFar}
 use Rattle.closest.specs.Walk.{holds, boxes}
-use Rattle.walk.specs.State.{PassedOver, improved, kept, walkBest, standOf, Turned}
-use Rattle.walk.specs.declared.Best.{Best}
-use Rattle.walk.specs.declared.State.{State}
-use Rattle.walk.specs.declared.Turn.{Turn}
+use Rattle.walk.specs.State.{Near, kept, walkBest, leads}
+use Rattle.members.specs.declared.Best.{Best}
 use Rattle.walk.proofs.AheadLaws.{stays}
+use Rattle.walk.proofs.StepLaws.{turn-spent, walk-open, again-held}
 
 -- ---- steps against an allowance
 
@@ -47,15 +46,22 @@ some-step {G = G} s m far fuel c k = go (dropped s m far c k) refl (s .group c) 
 
 -- ---- what a candidate is
 
--- by its spread a candidate is dropped
-pub dropped-is : (t : Table) (w : Tree) (kinds : List ℕ) (c : List Thing) (b : Best) {d : ℕ} → d ≡ spread (boxesIn (boxes t w) kinds c) →
-    dropped (scene (w .shape) (holds t w) kinds) (kept t) (tooFar (boxes t w) kinds) c b ≡ (b .known && ltb (b .squared) d)
-unfolding dropped tooFar
-dropped-is t w kinds c b {d} e = go (b .known) refl
-  where
-    go : (u : Bool) → b .known ≡ u → dropped (scene (w .shape) (holds t w) kinds) (kept t) (tooFar (boxes t w) kinds) c b ≡ (b .known && ltb (b .squared) d)
-    go true p = rw (dropped, p, tooFar, e)
-    go false p = rw (dropped, p)
+-- by its spread a candidate is dropped, or not
+module _ (t : Table) (w : Tree) (kinds : List ℕ) (c : List Thing) (b : Best) where
+  abbrev Drops : Bool → Type 0
+  Drops u = dropped (scene (w .shape) (holds t w) kinds) (kept t) (tooFar (boxes t w) kinds) c b ≡ u
+
+  drops : b .known ≡ true → b .squared < spread (boxesIn (boxes t w) kinds c) → Drops true
+  unfolding dropped tooFar
+  drops k h = rw (dropped, k, tooFar, lt-ltb (b .squared) (spread (boxesIn (boxes t w) kinds c)) h)
+
+  stays-in : Near b (spread (boxesIn (boxes t w) kinds c)) → Drops false
+  unfolding dropped tooFar
+  stays-in h = go (b .known) refl
+    where
+      go : (u : Bool) → b .known ≡ u → Drops false
+      go true p = rw (dropped, p, tooFar, le-ltb (b .squared) (spread (boxesIn (boxes t w) kinds c)) (h p))
+      go false p = rw (dropped, p)
 
 -- it is a group if its topmost member is a place
 pub group-of : (s : Shape) (c : List Thing) → level s (member c (topmost s c)) ≡ 0 → groupOf s c ≡ some (map number c)
@@ -66,56 +72,44 @@ pub no-group : (s : Shape) (c : List Thing) → (level s (member c (topmost s c)
 unfolding groupOf
 no-group s c e = rw (groupOf, ne-eqb _ 0 e)
 
--- ---- the turn that a step is
+-- ---- a candidate, from where the walk stands
 
-module _ (t : Table) (w : Tree) (kinds : List ℕ) (allowance : ℕ) (c : List Thing) (s : State) where
-  -- the turn of a step that counts
-  abbrev pub turn : Best → Bool → ℕ → Turn
-  turn best opens top = record { opens = opens; top = top; state = record { steps = s .steps + 1; spent = false; best = best } }
+module _ (t : Table) (tree : Tree) (kinds : List ℕ) (a : ℕ) (c : List Thing) (steps : ℕ) (best : Best) where
+  pub taken-spent : a ≤ steps → advance a (walkBest t tree kinds c best) (stand steps false best) ≡ stand steps true best
+  taken-spent h = over a (stand steps false best) refl _ (some-step _ _ _ _ _ _) h
 
-  abbrev drops : Bool → Type 0
-  drops u = dropped (scene (w .shape) (holds t w) kinds) (kept t) (tooFar (boxes t w) kinds) c (s .best) ≡ u
+  pub taken-open : steps < a → Near best (spread (boxesIn (boxes t tree) kinds c)) → groupOf (tree .shape) c ≡ none →
+      advance a (walkBest t tree kinds c best) (stand steps false best) ≡ leads t tree kinds a c (topmost (tree .shape) c) (entriesOf (tree .shape) (member c (topmost (tree .shape) c))) (stand (steps + 1) false best)
+  taken-open room near e =
+      walk-open t tree kinds a c (stand steps false best) (stand (steps + 1) false best) (stays-in t tree kinds c best near) e (sym (counted a (stand steps false best) refl best room)) refl
 
-  -- a turn that opens nothing
-  shut : (r : Turn) → r .opens ≡ false → standOf (r .state) ≡ advance allowance (walkBest t w kinds c (s .best)) (standOf s) → Turned t w kinds allowance c s r
-  shut r e d =
-      let no : r .opens ≡ true → ⊥ = λ h. true≢false (sym h ∙ e) in
-      record { done = λ _. d; left = λ h. absurd (no h); whole = λ h. absurd (no h); top = λ h. absurd (no h); steps = λ h. absurd (no h); room = λ h. absurd (no h) }
+-- ---- an entry that holds the kind
 
-  pub turned-done : {v : State} → standOf v ≡ advance allowance (walkBest t w kinds c (s .best)) (standOf s) → Turned t w kinds allowance c s (record { opens = false; top = 0; state = v })
-  turned-done d = shut _ refl d
+module _ (t : Table) (tree : Tree) (kinds : List ℕ) (a : ℕ) (c : List Thing) (i n k : ℕ) (b : k < countOf (tree .shape) n) (held : holds t tree (getD kinds i 0) (entry (tree .shape) n k) ≡ true)
+    (inside : i < length c) (lower : level (tree .shape) (member c i) ≡ suc (level (tree .shape) (entry (tree .shape) n k))) (steps : ℕ) (best : Best) where
+  -- the candidate with the entry for the member
+  abbrev pub next : List Thing
+  next = set c i (entry (tree .shape) n k)
 
-  module _ (going : s .spent ≡ false) where
-    pub turned-group : {g : List ℕ} {b : Best} → s .steps < allowance → drops false → groupOf (w .shape) c ≡ some g → b ≡ improved (padded g) (diameter t g) (s .best) → Turned t w kinds allowance c s (turn b false 0)
+  abbrev pub leading : ℕ → Stand Best → Stand Best
+  leading from w = leads t tree kinds a c i (drop from (entriesOf (tree .shape) (node n))) w
+
+  again : (v : Stand Best) → v ≡ advance a (walkBest t tree kinds next best) (stand steps false best) → leading k (stand steps false best) ≡ leading (k + 1) v
+  again v e = again-held t tree kinds a c i n k (stand steps false best) v b held inside lower e
+
+  pub at-spent : a ≤ steps → leading k (stand steps false best) ≡ stand steps true best
+  at-spent h = again (stand steps true best) (sym (taken-spent t tree kinds a next steps best h)) ∙ turn-spent t tree kinds a c i _ (stand steps true best) refl
+
+  module _ (room : steps < a) where
+    pub at-far : best .known ≡ true → best .squared < spread (boxesIn (boxes t tree) kinds next) → leading k (stand steps false best) ≡ leading (k + 1) (stand (steps + 1) false best)
     unfolding advance
-    turned-group {b = b} h e g q = shut _ refl (rw (at-group _ _ _ _ _ _ e g, ← q) (sym (counted allowance (standOf s) going b h)))
+    at-far u h = again _ (rw (at-drop _ _ _ _ _ _ (drops t tree kinds next best u h)) (sym (counted a (stand steps false best) refl best room)))
 
-    pub turned-open : {i : ℕ} → s .steps < allowance → drops false → groupOf (w .shape) c ≡ none → i ≡ topmost (w .shape) c → Turned t w kinds allowance c s (turn (s .best) true i)
-    turned-open h e g q = record {
-      done = λ p. absurd (true≢false p);
-      left = λ p. e;
-      whole = λ p. g;
-      top = λ p. q;
-      steps = λ p. sym (counted allowance (standOf s) going (s .best) h);
-      room = λ p. refl;
-    }
+    module _ (near : Near best (spread (boxesIn (boxes t tree) kinds next))) where
+      pub at-whole : {g : List ℕ} → groupOf (tree .shape) next ≡ some g → leading k (stand steps false best) ≡ leading (k + 1) (stand (steps + 1) false (improved (padded g) (diameter t g) best))
+      unfolding advance
+      at-whole {g} e = again _ (rw (at-group _ _ _ _ _ _ (stays-in t tree kinds next best near) e) (sym (counted a (stand steps false best) refl (improved (padded g) (diameter t g) best) room)))
 
--- ---- a candidate that is done with before its members are looked at
-
-module _ (allowance d : ℕ) (s : State) where
-  done-so : (v : State) → ((t : Table) (w : Tree) (kinds : List ℕ) (c : List Thing) → d ≡ spread (boxesIn (boxes t w) kinds c) → standOf v ≡ advance allowance (walkBest t w kinds c (s .best)) (standOf s)) → PassedOver allowance d s (record { done = true; state = v })
-  done-so v f = record { over = λ _. f; same = λ h. absurd (true≢false h); going = λ h. absurd (true≢false h); room = λ h. absurd (true≢false h); near = λ h. absurd (true≢false h) }
-
-  pub passed-spent : s .spent ≡ true → PassedOver allowance d s (record { done = true; state = s })
-  passed-spent e = done-so s (λ t w kinds c _. sym (stays allowance _ (standOf s) e))
-
-  module _ (going : s .spent ≡ false) where
-    pub passed-over : allowance ≤ s .steps → PassedOver allowance d s (record { done = true; state = record { steps = s .steps; spent = true; best = s .best } })
-    passed-over h = done-so _ (λ t w kinds c _. sym (over allowance (standOf s) going _ (some-step _ _ _ _ _ _) h))
-
-    pub passed-drop : s .steps < allowance → (s .best .known && ltb (s .best .squared) d) ≡ true → PassedOver allowance d s (record { done = true; state = record { steps = s .steps + 1; spent = false; best = s .best } })
-    unfolding advance
-    passed-drop h e = done-so _ (λ t w kinds c q. rw (at-drop _ _ _ _ _ _ (dropped-is t w kinds c (s .best) q ∙ e)) (sym (counted allowance (standOf s) going (s .best) h)))
-
-    pub passed-not : s .steps < allowance → (s .best .known && ltb (s .best .squared) d) ≡ false → PassedOver allowance d s (record { done = false; state = s })
-    passed-not h e = record { over = λ p. absurd (true≢false (sym p)); same = λ _. refl; going = λ _. going; room = λ _. h; near = λ _. e }
+      pub at-more : groupOf (tree .shape) next ≡ none → (v : Stand Best) →
+          v ≡ leads t tree kinds a next (topmost (tree .shape) next) (entriesOf (tree .shape) (member next (topmost (tree .shape) next))) (stand (steps + 1) false best) → leading k (stand steps false best) ≡ leading (k + 1) v
+      at-more e v q = again v (q ∙ sym (taken-open t tree kinds a next steps best room near e))

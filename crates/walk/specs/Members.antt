@@ -1,20 +1,25 @@
--- A candidate as the code has it: for each member its level, its number and its box.
+-- A candidate as the code has it: columns of the levels, the numbers and the sides of its members.
 -- Assumes nothing.
 use mathlib.Core.Path.{_≡_}
-use mathlib.Core.Bool.{cond}
-use mathlib.Core.List.{List, [], _∷_, map}
-use Prim.Native.Nat.{ℕ, zero, suc, _+_, _≤_, _<_}
+use mathlib.Core.List.{List, map}
+use Prim.Native.Nat.{ℕ, _≤_, _<_}
 use lib.IntN.{pos}
-use lib.Dec.{ltb, eqb}
+use lib.Dec.{eqb}
 use lib.ListN.{length, getD}
-use Rattle.plane.specs.Plane.{point, Ranged}
+use Rattle.plane.specs.Plane.{point}
 use Rattle.plane.specs.declared.Box.{Box}
 use Rattle.table.specs.Table.{Table, places, Valid}
 use Rattle.verdict.specs.Rules.{AllHold}
 use Rattle.tree.specs.Rules.{treeRules}
-use Rattle.tree.specs.Tree.{Tree, Thing, place, thing, level, boxOf}
+use Rattle.order.specs.Tab.{tab}
+use Rattle.tree.specs.Tree.{Sides, Tree, Thing, place, thing, level, boxAt, boxOf}
 use Rattle.closest.specs.Candidate.{number, Good, member}
-use Rattle.walk.specs.declared.Member.{Member}
+
+-- a member: its level, which is 0 for a place, its number and its box
+pub record Member : Type 0 where
+  pub level : ℕ
+  pub number : ℕ
+  pub at : Box
 
 -- the member that stands for a thing
 abbrev pub memberOf : Table → Tree → Thing → Member
@@ -35,20 +40,9 @@ nobody = record { level = 0; number = 0; at = point (pos 0) (pos 0) }
 abbrev pub boxesOf : List Member → List Box
 boxesOf c = map (λ m. m .at) c
 
--- a list without its element i
-unfoldable pub without : {A : Type 0} → ℕ → List A → List A
-without i [] = []
-without zero (a ∷ l) = l
-without (suc i) (a ∷ l) = a ∷ without i l
-
--- the sides of every box of a list are in range
-abbrev pub AllRanged : List Box → Type 0
-AllRanged [] = Unit {0}
-AllRanged (b ∷ l) = Ranged b × AllRanged l
-
--- where element k of a list without its element i stands in the whole list
-abbrev pub skip : ℕ → ℕ → ℕ
-skip i k = cond (ltb k i) k (k + 1)
+-- the members that eight levels, numbers and sides of each direction make
+abbrev pub membersAt : List ℕ → List ℕ → Sides → List Member
+membersAt levels numbers b = tab (λ i. record { level = getD levels i 0; number = getD numbers i 0; at = boxAt b i }) 8
 
 -- the thing that a member stands for
 abbrev pub thingOf : Member → Thing

@@ -1,345 +1,734 @@
-use Prim.Native.Nat.{ℕ, suc, _+_, _-_, _≤_, _<_}
 use mathlib.Core.Path.{_≡_, refl, sym, ap, ap₂, subst, _∙_}
-use mathlib.Core.Bool.{true}
-use mathlib.Core.List.{List}
+use mathlib.Core.Bool.{Bool, true, false}
+use mathlib.Core.List.{List, map}
+use mathlib.Core.Option.{none}
+use Prim.Native.Nat.{ℕ, suc, _+_, _-_, _≤_, _<_}
 use native.Mathlib.Omega.{arith}
 use borrow.Author.Needs.{needs}
-use lib.ListN.{length, take, drop, getD, set, length-map, length-set}
 use borrow.Author.Tests.{not-true, not-false}
-use Rattle.table.specs.Table.{Table, table}
-use Rattle.tree.specs.Tree.{Tree, Thing, node, level, countOf}
-use Rattle.tree.specs.Lent.{shape, sides, tree}
-use Rattle.closest.specs.Candidate.{entriesOf, entry, member, levels, topmost, boxesIn}
-use Rattle.closest.specs.Walk.{holds, boxes}
-use Rattle.walks.specs.Allowance.{Stand, advance}
-use Rattle.walk.specs.Members.{thingOf, thingsOf, boxesOf, Real, Fair}
-use Rattle.walk.specs.declared.Member.{Member}
-use Rattle.walk.specs.declared.Best.{Best}
-use Rattle.walk.specs.declared.State.{State}
-use Rattle.walk.specs.Opening.{Opens}
-use Rattle.walk.specs.State.{standOf, walkBest, Turned}
-use Rattle.walk.proofs.StepLaws.{leads, one-lower, again-held, again-not, ended, walk-open}
-use Rattle.walk.proofs.HeightLaws.{heights, fair-levels}
-use Rattle.closest.specs.Group.{spread}
-use Rattle.walk.proofs.MemberLaws.{boxes-are}
-use Rattle.walk.proofs.OpenLaws.{stand, many, placed, fair-set, things-set, spread-in}
-use Rattle.walk.proofs.EntryLaws.{meets, entry-lower}
-use Rattle.walk.proofs.RunLaws.{kind-small, in-run, in-list, in-few, is-entry, real, reads}
 use borrow.Fn.Kinds.{In}
 use borrow.Fn.PlainCycle.{Measures, is, falls, and}
+use mir.Syntax.{w32}
+use mir.Val.{ofZ, toZ}
+use mir.Facts.{toZ-ofZ}
+use lib.Dec.{eqb}
+use lib.IntN.{ℤ}
+use lib.ListN.{length, take, getD, set, length-set}
+use lib.Seq.{set-set, set-getD}
+use Rattle.plane.specs.Plane.{Ranged}
+use Rattle.plane.specs.declared.Box.{Box}
+use Rattle.plane.proofs.SignedLaws.{fit}
+use Rattle.table.specs.Table.{Table, table}
+use Rattle.tree.specs.Tree.{Tree, Sides, Thing, thing, level, boxAt, boxOf, startOf, countOf}
+use Rattle.tree.specs.Lent.{shape, sides, tree}
+use Rattle.tree.specs.Rules.{lengths, Room}
+use Rattle.walks.specs.Allowance.{Stand, stand}
+use Rattle.closest.specs.Group.{farthest}
+use Rattle.closest.specs.Candidate.{number, member, levels, topmost, groupOf, entry}
+use Rattle.closest.specs.Walk.{holds}
+use Rattle.closest.proofs.CandidateLaws.{open-is}
+use Rattle.members.specs.Boxes.{without, AllRanged, boxesAt, UpTo}
+use Rattle.members.specs.Best.{bestAt}
+use Rattle.walk.specs.Members.{Member, nobody, boxesOf, membersAt, thingsOf}
+use Rattle.walk.specs.Opening.{Opened, Led}
+use Rattle.members.specs.declared.Best.{Best}
+use Rattle.walk.specs.declared.Opening.{Opening}
+use Rattle.walk.proofs.EntryLaws.{meets, ranged, Reads}
+use Rattle.walk.proofs.RunLaws.{kind-small, in-list, in-few, is-entry, real, reads}
+use Rattle.walk.proofs.ColumnLaws.{members-long, member-at, boxes-of, levels-of, Eight, members-set}
+use Rattle.members.proofs.LeadLaws.{level-at, topmost-below}
+use Rattle.walk.proofs.HeightLaws.{total, total-of}
+use Rattle.walk.proofs.StepLaws.{one-lower}
+use Rattle.walk.proofs.TurnLaws.{group-of, no-group}
+use Rattle.walk.proofs.OpenLaws.{many, boxes-ranged, top-inside, top-there, opens}
+use Rattle.walk.proofs.NextLaws.{Ready, inside, lower, next, next-fair, next-things, levels-so, high-is, lower-is, levels-next, member-is, comes}
+use Rattle.walk.proofs.LoopLaws.{Going, over, skips, spends, drops, goes-on, stops}
 use Rattle.walk.proofs.walk.Reads as walk
 use Rattle.walk.proofs.walk.Kinds as walk-kinds
-use Rattle.walk.proofs.+walk.Lts-walk as walk-lts
-use Rattle.walk.proofs.holds_at.Reads as holds-at-reads
-use Rattle.walk.proofs.near_at.Reads as near-at-reads
-use Rattle.walk.proofs.pass_over.Reads as pass-over-reads
-use Rattle.walk.proofs.replace.Reads as replace-reads
+use Rattle.walk.proofs.+walk.Lts-walk as lts
+use Rattle.tree.proofs.wide16.Reads as wide16-reads
+use Rattle.members.proofs.box_of.Reads as box-of-reads
+use Rattle.members.proofs.find_topmost.Reads as find-topmost-reads
+use Rattle.members.proofs.holds_at.Reads as holds-at-reads
+use Rattle.members.proofs.limit_of.Reads as limit-of-reads
 use Rattle.walk.proofs.open_at.Reads as open-at-reads
-use Rattle.walk.proofs.take_step.Reads as take-step-reads
+use Rattle.members.proofs.put8.Reads as put8-reads
+use Rattle.members.proofs.put16.Reads as put16-reads
+use Rattle.members.proofs.put32.Reads as put32-reads
+use Rattle.members.proofs.row_of.Reads as row-of-reads
+use Rattle.members.proofs.take_step.Reads as take-step-reads
+use Rattle.walk.proofs.take_groups.Reads as take-groups-reads
 use Rattle.walk.proofs.+walk.{statement}
 use Rattle.walk.proofs.+walk.Tie.{close}
 
-abbrev μ-walk : Measures 12 walk-kinds.ps ℕ
-μ-walk κs a = heights (take (a .1 .1 .1 .1 .1 .1 .1 .1 .1 .1 .1 .1 .1 .1 .1 .0) (a .1 .1 .1 .1 .1 .1 .1 .1 .1 .1 .1 .1 .1 .1 .1 .1 .1 .0))
+abbrev μ-walk : Measures 16 walk-kinds.ps ℕ
+μ-walk κs a = total (take (a .1 .1 .1 .1 .1 .1 .1 .1 .1 .1 .1 .1 .1 .1 .1 .0) (a .1 .1 .1 .1 .1 .1 .1 .1 .1 .1 .1 .1 .1 .1 .1 .1 .1 .1 .0))
 
-abbrev walk-at : ℕ → In 12 walk-kinds.ps
-walk-at t = and 12 walk-kinds.ps (is 12 walk-kinds.ps μ-walk t) walk.Pre
+abbrev walk-at : ℕ → In 16 walk-kinds.ps
+walk-at t = and 16 walk-kinds.ps (is 16 walk-kinds.ps μ-walk t) walk.Pre
 
-abbrev walk-below : ℕ → In 12 walk-kinds.ps
-walk-below t = and 12 walk-kinds.ps (falls 12 walk-kinds.ps _<_ μ-walk t) walk.Pre
+abbrev walk-below : ℕ → In 16 walk-kinds.ps
+walk-below t = and 16 walk-kinds.ps (falls 16 walk-kinds.ps _<_ μ-walk t) walk.Pre
 
-abbrev claims : ℕ → walk-lts.Claims
+abbrev claims : ℕ → lts.Claims
 claims t = (
-  take-step-reads.Asked,
-  take-step-reads.Learnt,
+  put16-reads.Asked,
+  put16-reads.Learnt,
+  put32-reads.Asked,
+  put32-reads.Learnt,
   open-at-reads.Asked,
   open-at-reads.Learnt,
+  put8-reads.Asked,
+  put8-reads.Learnt,
+  find-topmost-reads.Asked,
+  find-topmost-reads.Learnt,
+  take-groups-reads.Asked,
+  take-groups-reads.Learnt,
   holds-at-reads.Asked,
   holds-at-reads.Learnt,
-  near-at-reads.Asked,
-  near-at-reads.Learnt,
-  pass-over-reads.Asked,
-  pass-over-reads.Learnt,
-  replace-reads.Asked,
-  replace-reads.Learnt,
+  take-step-reads.Asked,
+  take-step-reads.Learnt,
+  wide16-reads.Asked,
+  wide16-reads.Learnt,
+  box-of-reads.Asked,
+  box-of-reads.Learnt,
+  limit-of-reads.Asked,
+  limit-of-reads.Learnt,
+  row-of-reads.Asked,
+  row-of-reads.Learnt,
   walk-below t,
   walk.Post,
 )
 
-abbrev walk-Inv-loop : walk-lts.InvT-loop
-walk-Inv-loop level start count entries x y kit x-lo x-hi y-lo y-hi kits nodes listed kinds m allowance cand spread st₀ o k₀ st k =
-    (k ≤ o .many)
-    × (leads (table x y kit) (tree (shape nodes listed level start count entries) (sides x-lo x-hi y-lo y-hi) kits) (take m kinds) allowance (thingsOf (take m cand)) (o .top) (drop k (entriesOf (shape nodes listed level start count entries) (node (o .node)))) (standOf st)
-    ≡ leads (table x y kit) (tree (shape nodes listed level start count entries) (sides x-lo x-hi y-lo y-hi) kits) (take m kinds) allowance (thingsOf (take m cand)) (o .top) (entriesOf (shape nodes listed level start count entries) (node (o .node))) (standOf st₀))
+-- the levels are those of the candidates below, with the level of the opened member
+abbrev Inv-loop : lts.InvT-loop
+Inv-loop level start count entries x y kit x-lo x-hi y-lo y-hi kits nodes listed m allowance top at number w e s n steps₀ known₀ squared₀ places₀ kinds names wests easts souths norths high o lower next k₀ steps known squared places k =
+    Going (table x y kit) (tree (shape nodes listed level start count entries) (sides x-lo x-hi y-lo y-hi) kits) (take m kinds) allowance m (membersAt (set lower top high) names (sides wests easts souths norths)) o (stand steps₀ false (bestAt known₀ squared₀ places₀)) steps (bestAt known squared places) k
 
-abbrev walk-μ-loop : walk-lts.MeasureT-loop
-walk-μ-loop level start count entries x y kit x-lo x-hi y-lo y-hi kits nodes listed kinds m allowance cand spread st₀ o k₀ st k =
+abbrev μ-loop : lts.MeasureT-loop
+μ-loop level start count entries x y kit x-lo x-hi y-lo y-hi kits nodes listed m allowance top at number w e s n steps₀ known₀ squared₀ places₀ kinds names wests easts souths norths high o lower next k₀ steps known squared places k =
     o .many - k
 
--- the places that the proof speaks of: the start, the step taken, the candidate opened, the loop
-abbrev Start : ℕ → Type 0
-Start t = walk-lts.Start (claims t) (walk-at t) walk.Post walk-Inv-loop walk-μ-loop
+module _ (t : ℕ) where
+  -- the places that the proof speaks of
+  abbrev Start : Type 0
+  Start = lts.Start (claims t) (walk-at t) walk.Post Inv-loop μ-loop
 
-abbrev Taken : ℕ → Type 0
-Taken t = walk-lts.After-take-step (claims t) (walk-at t) walk.Post walk-Inv-loop walk-μ-loop
+  abbrev Made : Type 0
+  Made = lts.After-put324 (claims t) (walk-at t) walk.Post Inv-loop μ-loop
 
-abbrev Open : ℕ → Type 0
-Open t = walk-lts.After-open-at (claims t) (walk-at t) walk.Post walk-Inv-loop walk-μ-loop
+  abbrev Open : Type 0
+  Open = lts.After-open-at (claims t) (walk-at t) walk.Post Inv-loop μ-loop
 
-abbrev Round : ℕ → Type 0
-Round t = walk-lts.After-holds-at (claims t) (walk-at t) walk.Post walk-Inv-loop walk-μ-loop
+  abbrev Found : Type 0
+  Found = lts.After-find-topmost (claims t) (walk-at t) walk.Post Inv-loop μ-loop
 
-abbrev first : (t : ℕ) → Taken t → Start t
-first t c = c .before .before .before .before .before .before .before
+  abbrev Loop : Type 0
+  Loop = lts.At-loop (claims t) (walk-at t) walk.Post Inv-loop μ-loop
 
-abbrev taken : (t : ℕ) → Open t → Taken t
-taken t c = c .before .before .before .before
+  abbrev Entry : Type 0
+  Entry = lts.After-struct-known2 (claims t) (walk-at t) walk.Post Inv-loop μ-loop
 
-abbrev places : (t : ℕ) → Start t → Table
-places t b = table (b .args .x .now) (b .args .y .now) (b .args .kit .now)
+  abbrev Asked : Type 0
+  Asked = lts.After-holds-at (claims t) (walk-at t) walk.Post Inv-loop μ-loop
 
-abbrev over : (t : ℕ) → Start t → Tree
-over t b =
-    tree (shape (b .args .nodes) (b .args .listed) (b .args .level .now) (b .args .start .now) (b .args .count .now) (b .args .entries .now))
-    (sides (b .args .x-lo .now) (b .args .x-hi .now) (b .args .y-lo .now) (b .args .y-hi .now)) (b .args .kits .now)
+  abbrev Boxed : Type 0
+  Boxed = lts.After-box-of (claims t) (walk-at t) walk.Post Inv-loop μ-loop
 
-abbrev wanted : (t : ℕ) → Start t → List ℕ
-wanted t b = take (b .args .m) (b .args .kinds)
+  abbrev Measured : Type 0
+  Measured = lts.After-row-of (claims t) (walk-at t) walk.Post Inv-loop μ-loop
 
-abbrev things : (t : ℕ) → Start t → List Thing
-things t b = thingsOf (take (b .args .m) (b .args .cand))
+  abbrev Sent : Type 0
+  Sent = lts.After-struct-told4 (claims t) (walk-at t) walk.Post Inv-loop μ-loop
 
-long : (t : ℕ) (b : Start t) → b .args .m ≤ length (b .args .cand)
-long t b =
-    let eight : length (b .args .cand) ≡ 8 = search needs in
-    omega (arith, b .pre .1 .1 .0 .most)
+  abbrev Taken : Type 0
+  Taken = lts.After-walk (claims t) (walk-at t) walk.Post Inv-loop μ-loop
 
--- what the step did
-turned : (t : ℕ) (c : Taken t) → let b = first t c in Turned (places t b) (over t b) (wanted t b) (b .args .allowance) (things t b) (b .args .s) (c .take-step .result)
-turned t c =
-    let b = first t c in
-    let fair : Fair (places t b) (over t b) (wanted t b) (take (b .args .m) (b .args .cand)) = b .pre .1 .1 .1 .0 in
-    let f = stand (b .pre .1 .0) (wanted t b) (b .args .m) (b .args .cand) (long t b) fair in
-    let even : length (wanted t b) ≡ length (things t b) = sym (length-map (take (b .args .m) (b .args .cand)) thingOf ∙ fair .size) in
-    c .take-step .ensures (places t b) (over t b) (wanted t b) (things t b) (fair .so) even (placed (b .pre .1 .0) (wanted t b) (b .args .m) (b .args .cand) (long t b) fair) (b .pre .1 .1 .1 .1 ∙ ap spread (boxes-are f (wanted t b) even))
+  abbrev begin : Made → Start
+  begin c = c .before .before .before .before .before .before .before .before .before .before .before .before .before .before .before .before
 
-walk-take-step-requires : (t : ℕ) → walk-lts.Need-take-step-requires (claims t) (walk-at t) walk.Post walk-Inv-loop walk-μ-loop
-walk-take-step-requires t c κs = (c .before .before .before .before .before .before .pre .1 .1 .0 .some, c .before .before .before .before .before .before .pre .1 .1 .0 .most)
+  abbrev opened : Found → Open
+  opened c = c .before .before .before .before
 
-walk-returns : (t : ℕ) → walk-lts.Need-returns (claims t) (walk-at t) walk.Post walk-Inv-loop walk-μ-loop
-walk-returns t c = turned t (c .before .before .before) .done (not-true _ (c .if1 .taken))
+  abbrev made : Found → Made
+  made c = opened c .before
 
-walk-open-at-requires : (t : ℕ) → walk-lts.Need-open-at-requires (claims t) (walk-at t) walk.Post walk-Inv-loop walk-μ-loop
-walk-open-at-requires t c κs =
-    let b = first t (c .before .before .before) in
-    let opens = not-false _ (c .if1 .left) in
-    (b .pre .1 .0, (b .pre .1 .1 .0, (b .pre .1 .1 .1 .0, (turned t (c .before .before .before) .top opens, turned t (c .before .before .before) .whole opens))))
+  abbrev found : Loop → Found
+  found c = c .before .before
 
-walk-loop-holds : (t : ℕ) → walk-lts.Need-loop-holds (claims t) (walk-at t) walk.Post walk-Inv-loop walk-μ-loop
-walk-loop-holds t c = (omega arith, refl)
+  abbrev round : Entry → Loop
+  round c = c .before .before .before
 
-walk-add-k : (t : ℕ) → walk-lts.Need-add-k (claims t) (walk-at t) walk.Post walk-Inv-loop walk-μ-loop
-walk-add-k t c = search needs
+  abbrev at : Asked → Entry
+  at c = c .before
 
--- what is known in the loop
-inside : (t : ℕ) (o : Open t) → o .open-at .result .top < length (things t (first t (taken t o)))
-inside t o =
-    let b = first t (taken t o) in
-    omega (arith, many (b .pre .1 .0) (wanted t b) (b .args .m) (b .args .cand) (long t b) (b .pre .1 .1 .1 .0), o .open-at .ensures .1 .inside)
+  abbrev shown : Boxed → Asked
+  shown c = c .before .before .before .before .before .before .before
 
--- the run, where its entry k is looked at
-abbrev At : ℕ → Type 0
-At t = walk-lts.After-struct-known3 (claims t) (walk-at t) walk.Post walk-Inv-loop walk-μ-loop
+  abbrev boxed : Measured → Boxed
+  boxed c = c .before .before .before .before .before .before .before
 
-module _ (t : ℕ) (c : At t) where
-  abbrev o : Open t
-  o = c .before .before .before .before
+  abbrev places : Start → Table
+  places s = table (s .args .x .now) (s .args .y .now) (s .args .kit .now)
 
-  abbrev b : Start t
-  b = first t (taken t o)
+  abbrev over-tree : Start → Tree
+  over-tree s =
+      tree (shape (s .args .nodes) (s .args .listed) (s .args .level .now) (s .args .start .now) (s .args .count .now) (s .args .entries .now))
+      (sides (s .args .x-lo .now) (s .args .x-hi .now) (s .args .y-lo .now) (s .args .y-hi .now)) (s .args .kits .now)
 
-  abbrev k : ℕ
-  k = c .before .before .before .loop .k
+  abbrev wanted : Start → List ℕ
+  wanted s = take (s .args .m) (s .args .t15)
 
-  abbrev y : Thing
-  y = entry (over t b .shape) (o .open-at .result .node) k
+  abbrev best-of : Start → Best
+  best-of s = bestAt (s .args .known .now) (s .args .squared .now) (s .args .places .now)
 
-  opens : Opens (places t b) (over t b) (wanted t b) (b .args .m) (b .args .cand) (o .open-at .result)
-  opens = o .open-at .ensures .1
+  -- the candidate in its columns, as it is called for and as the code has it
+  abbrev called : Start → List Member
+  called s =
+      membersAt (s .args .t19) (set (s .args .numbers) (s .args .at) (s .args .number))
+      (sides (set (s .args .west) (s .args .at) (s .args .w)) (set (s .args .east) (s .args .at) (s .args .e)) (set (s .args .south) (s .args .at) (s .args .s)) (set (s .args .north) (s .args .at) (s .args .n)))
 
-  within : k < countOf (over t b .shape) (o .open-at .result .node)
-  within = in-run (b .pre .1 .0) opens k (c .before .if2 .taken)
+  abbrev names : Made → List ℕ
+  names d = d .before .before .before .before .before .before .before .before .put16 .last .0
 
-  lower : level (over t b .shape) (member (things t b) (o .open-at .result .top)) ≡ suc (level (over t b .shape) y)
-  lower = ap (level (over t b .shape)) (opens .is) ∙ entry-lower (b .pre .1 .0) (o .open-at .result .node) k (opens .there) within
+  abbrev ends : Made → Sides
+  ends d =
+      sides (d .before .before .before .before .before .before .put32 .last .0) (d .before .before .before .before .put322 .last .0) (d .before .before .put323 .last .0) (d .put324 .last .0)
 
-walk-add-holds-at : (t : ℕ) → walk-lts.Need-add-holds-at (claims t) (walk-at t) walk.Post walk-Inv-loop walk-μ-loop
-walk-add-holds-at t c = omega (arith, in-few (b t c .pre .1 .0) (opens t c) (k t c) (c .before .if2 .taken))
+  abbrev cand : Made → List Member
+  cand d = membersAt (begin d .args .t19) (names d) (ends d)
 
-walk-holds-at-requires : (t : ℕ) → walk-lts.Need-holds-at-requires (claims t) (walk-at t) walk.Post walk-Inv-loop walk-μ-loop
-walk-holds-at-requires t c κs =
-    let p = b t c .pre .1 .0 in
-    let r = reads p (opens t c) (k t c) (c .before .if2 .taken) in
-    ((in-list p (opens t c) (k t c) (c .before .if2 .taken), kind-small (b t c .args .kinds) (b t c .args .m) (opens t c) (b t c .pre .1 .1 .0)), (λ u. r .place u .1 .1, λ u. omega (arith, r .node u, meets p .counted .room .kits)))
+  abbrev things : Made → List Thing
+  things d = thingsOf (take (begin d .args .m) (cand d))
 
-held : (t : ℕ) (c : Round t) → c .holds-at .result ≡ holds (places t (b t (c .before))) (over t (b t (c .before))) (getD (wanted t (b t (c .before))) (o t (c .before) .open-at .result .top) 0) (y t (c .before))
-held t c =
-    let a : At t = c .before in
-    let s = b t a in
-    c .holds-at .ensures (s .args .x .now) (s .args .y .now)
-    ∙ ap₂ (λ (x : Thing) (kind : ℕ). holds (places t s) (over t s) kind x) (is-entry (s .pre .1 .0) (opens t a) (k t a) (a .before .if2 .taken)) (opens t a .kind)
+  -- the columns after the member was put in
+  names-so : (d : Made) → let s = begin d in names d ≡ set (s .args .numbers) (s .args .at) (s .args .number)
+  names-so d = d .before .before .before .before .before .before .before .before .put16 .ensures
 
-walk-near-at-requires : (t : ℕ) → walk-lts.Need-near-at-requires (claims t) (walk-at t) walk.Post walk-Inv-loop walk-μ-loop
-walk-near-at-requires t c κs =
-    let a : At t = c .before .before in
-    (b t a .pre .1 .0, (b t a .pre .1 .1 .0, (b t a .pre .1 .1 .1 .0, (a .before .if2 .taken, opens t a))))
+  west-so : (d : Made) → let s = begin d in ends d .x-lo ≡ set (s .args .west) (s .args .at) (s .args .w)
+  west-so d = let s = begin d in d .before .before .before .before .before .before .put32 .ensures ∙ ap (set (s .args .west) (s .args .at)) (toZ-ofZ (s .fits .w))
 
-walk-pass-over-requires : (t : ℕ) → walk-lts.Need-pass-over-requires (claims t) (walk-at t) walk.Post walk-Inv-loop walk-μ-loop
-walk-pass-over-requires t c κs = tt
+  east-so : (d : Made) → let s = begin d in ends d .x-hi ≡ set (s .args .east) (s .args .at) (s .args .e)
+  east-so d = let s = begin d in d .before .before .before .before .put322 .ensures ∙ ap (set (s .args .east) (s .args .at)) (toZ-ofZ (s .fits .e))
 
-walk-replace-requires : (t : ℕ) → walk-lts.Need-replace-requires (claims t) (walk-at t) walk.Post walk-Inv-loop walk-μ-loop
-walk-replace-requires t c κs =
-    let a : At t = c .before .before .before .before .before .before .before in
-    omega (arith, opens t a .inside, b t a .pre .1 .1 .0 .most)
+  south-so : (d : Made) → let s = begin d in ends d .y-lo ≡ set (s .args .south) (s .args .at) (s .args .s)
+  south-so d = let s = begin d in d .before .before .put323 .ensures ∙ ap (set (s .args .south) (s .args .at)) (toZ-ofZ (s .fits .s))
 
--- the candidate with the entry for the member
-abbrev Came : ℕ → Type 0
-Came t = walk-lts.After-near-at (claims t) (walk-at t) walk.Post walk-Inv-loop walk-μ-loop
+  north-so : (d : Made) → let s = begin d in ends d .y-hi ≡ set (s .args .north) (s .args .at) (s .args .n)
+  north-so d = let s = begin d in d .put324 .ensures ∙ ap (set (s .args .north) (s .args .at)) (toZ-ofZ (s .fits .n))
 
-module _ (t : ℕ) (c : Came t) where
-  abbrev here : At t
-  here = c .before .before .before
+  cand-so : (d : Made) → called (begin d) ≡ cand d
+  cand-so d =
+      sym (ap₂ (membersAt (begin d .args .t19)) (names-so d)
+      (ap₂ (λ (a b : List ℤ). sides a b (ends d .y-lo) (ends d .y-hi)) (west-so d) (east-so d)
+      ∙ ap₂ (λ (a b : List ℤ). sides (set (begin d .args .west) (begin d .args .at) (begin d .args .w)) (set (begin d .args .east) (begin d .args .at) (begin d .args .e)) a b) (south-so d) (north-so d)))
 
-  abbrev next : List Member
-  next = set (b t here .args .cand) (o t here .open-at .result .top) (c .near-at .result .member)
+  eight-in : (s : Start) → Eight (s .args .t19) (s .args .numbers) (sides (s .args .west) (s .args .east) (s .args .south) (s .args .north))
+  eight-in s = record {
+    level = search needs;
+    number = search needs;
+    x-lo = search (needs, s .good .1 .1 .1 .1 .1 .1 .1 .1 .1 .1 .1 .1 .1 .1 .1 .1 .1 .1 .1 .1 .0);
+    x-hi = search (needs, s .good .1 .1 .1 .1 .1 .1 .1 .1 .1 .1 .1 .1 .1 .1 .1 .1 .1 .1 .1 .1 .1 .0);
+    y-lo = search (needs, s .good .1 .1 .1 .1 .1 .1 .1 .1 .1 .1 .1 .1 .1 .1 .1 .1 .1 .1 .1 .1 .1 .1 .0);
+    y-hi = search (needs, s .good .1 .1 .1 .1 .1 .1 .1 .1 .1 .1 .1 .1 .1 .1 .1 .1 .1 .1 .1 .1 .1 .1 .1 .0);
+  }
 
-  abbrev of : Start t
-  of = b t here
+  eight : (d : Made) → Eight (begin d .args .t19) (names d) (ends d)
+  eight d =
+      let s = begin d in
+      record {
+        level = eight-in s .level;
+        number = ap length (names-so d) ∙ length-set (s .args .numbers) (s .args .at) (s .args .number) ∙ eight-in s .number;
+        x-lo = ap length (west-so d) ∙ length-set (s .args .west) (s .args .at) (s .args .w) ∙ eight-in s .x-lo;
+        x-hi = ap length (east-so d) ∙ length-set (s .args .east) (s .args .at) (s .args .e) ∙ eight-in s .x-hi;
+        y-lo = ap length (south-so d) ∙ length-set (s .args .south) (s .args .at) (s .args .s) ∙ eight-in s .y-lo;
+        y-hi = ap length (north-so d) ∙ length-set (s .args .north) (s .args .at) (s .args .n) ∙ eight-in s .y-hi;
+      }
 
-  really : Real (places t of) (over t of) (y t here)
-  really = real (of .pre .1 .0) (opens t here) (k t here) (here .before .if2 .taken)
+  long : (d : Made) → begin d .args .m ≤ length (cand d)
+  long d = omega (arith, members-long (begin d .args .t19) (names d) (ends d), begin d .pre .1 .1 .1 .0 .most)
 
-  fair : Fair (places t of) (over t of) (wanted t of) (take (of .args .m) next)
-  fair =
-      subst (λ (a : Member). Fair (places t of) (over t of) (wanted t of) (take (of .args .m) (set (of .args .cand) (o t here .open-at .result .top) a))) (sym (c .near-at .ensures .member))
-      (fair-set (of .pre .1 .0) (wanted t of) (of .args .m) (of .args .cand) (long t of) (of .pre .1 .1 .1 .0) (o t here .open-at .result .top) (y t here) (opens t here .inside) really)
+  open-so : (d : Made) → let s = begin d in Opened (places s) (over-tree s) (wanted s) (s .args .m) (cand d) (s .args .top) (best-of s)
+  open-so d = let s = begin d in subst (λ (l : List Member). Opened (places s) (over-tree s) (wanted s) (s .args .m) l (s .args .top) (best-of s)) (cand-so d) (s .pre .1 .1 .1 .1)
 
-  stands : thingsOf (take (of .args .m) next) ≡ set (things t of) (o t here .open-at .result .top) (y t here)
-  stands =
-      ap (λ (a : Member). thingsOf (take (of .args .m) (set (of .args .cand) (o t here .open-at .result .top) a))) (c .near-at .ensures .member)
-      ∙ things-set (of .pre .1 .0) (wanted t of) (of .args .m) (of .args .cand) (long t of) (of .pre .1 .1 .1 .0) (o t here .open-at .result .top) (y t here) (opens t here .inside) really
+  top-in : (d : Made) → begin d .args .top < begin d .args .m
+  top-in d = let s = begin d in top-inside (s .pre .1 .1 .0) (wanted s) (s .args .m) (cand d) (long d) (open-so d .fair) (s .args .top) (open-so d .is) (open-so d .whole)
 
-  fallen : heights (take (of .args .m) next) < heights (take (of .args .m) (of .args .cand))
-  fallen =
-      omega (arith, fair-levels fair ∙ ap (levels (over t of .shape)) stands, one-lower (over t of .shape) (things t of) (o t here .open-at .result .top) (y t here) (inside t (o t here)) (lower t here), fair-levels (of .pre .1 .1 .1 .0))
+  top-few : (d : Made) → begin d .args .top < 8
+  top-few d = omega (arith, top-in d, begin d .pre .1 .1 .1 .0 .most)
 
-  -- its spread, as the walk has it
-  apart : c .near-at .result .spread ≡ spread (boxesIn (boxes (places t of) (over t of)) (wanted t of) (thingsOf (take (of .args .m) next)))
-  apart =
-      let long-next : of .args .m ≤ length next = omega (arith, length-set (of .args .cand) (o t here .open-at .result .top) (c .near-at .result .member), long t of) in
-      c .near-at .ensures .spread ∙ spread-in (of .pre .1 .0) (wanted t of) (of .args .m) next long-next fair
+  top-member : (d : Made) → let s = begin d in getD (cand d) (s .args .top) nobody ≡ record { level = getD (s .args .t19) (s .args .top) 0; number = getD (names d) (s .args .top) 0; at = boxAt (ends d) (s .args .top) }
+  top-member d = member-at (begin d .args .t19) (names d) (ends d) (begin d .args .top) (top-few d)
 
-walk-walk-requires : (t : ℕ) → walk-lts.Need-walk-requires (claims t) (walk-at t) walk.Post walk-Inv-loop walk-μ-loop
-walk-walk-requires t c κs =
-    let d : Came t = c .before .before .before .before .before in
-    let s = of t d in
-    let e = c .replace .ensures in
-    let f : heights (take (s .args .m) (c .replace .result)) ≡ heights (take (s .args .m) (next t d)) = ap (λ (l : List Member). heights (take (s .args .m) l)) e in
-    (omega (arith, fallen t d, s .pre .0), (s .pre .1 .0, (s .pre .1 .1 .0, (subst (λ (l : List Member). Fair (places t s) (over t s) (wanted t s) (take (s .args .m) l)) (sym e) (fair t d), d .near-at .ensures .spread ∙ ap (λ (l : List Member). spread (boxesOf (take (s .args .m) l))) (sym e)))))
+  put16-requires : lts.Need-put16-requires (claims t) (walk-at t) walk.Post Inv-loop μ-loop
+  put16-requires c κs = c .before .before .before .before .before .before .before .pre .1 .0
 
--- what is left to do once the entry's candidate is done with
-module _ (t : ℕ) (d : Came t) (v : Stand Best) where
-  abbrev st : State
-  st = here t d .before .before .before .loop .st
+  put32-requires : lts.Need-put32-requires (claims t) (walk-at t) walk.Post Inv-loop μ-loop
+  put32-requires c κs = c .before .before .before .before .before .before .before .before .before .pre .1 .0
 
-  on : holds (places t (of t d)) (over t (of t d)) (getD (wanted t (of t d)) (o t (here t d) .open-at .result .top) 0) (y t (here t d)) ≡ true →
-      v ≡ advance (of t d .args .allowance) (walkBest (places t (of t d)) (over t (of t d)) (wanted t (of t d)) (thingsOf (take (of t d .args .m) (next t d))) (st .best)) (standOf st) →
-      leads (places t (of t d)) (over t (of t d)) (wanted t (of t d)) (of t d .args .allowance) (things t (of t d)) (o t (here t d) .open-at .result .top) (drop (k t (here t d) + 1) (entriesOf (over t (of t d) .shape) (node (o t (here t d) .open-at .result .node)))) v
-      ≡ leads (places t (of t d)) (over t (of t d)) (wanted t (of t d)) (of t d .args .allowance) (things t (of t d)) (o t (here t d) .open-at .result .top) (entriesOf (over t (of t d) .shape) (node (o t (here t d) .open-at .result .node))) (standOf (taken t (o t (here t d)) .take-step .result .state))
-  on h e =
-      let a = here t d in
-      let s = of t d in
-      sym (again-held (places t s) (over t s) (wanted t s) (s .args .allowance) (things t s) (o t a .open-at .result .top) (o t a .open-at .result .node) (k t a) (standOf st) v (within t a) h (inside t (o t a)) (lower t a)
-      (e ∙ ap (λ (c : List Thing). advance (s .args .allowance) (walkBest (places t s) (over t s) (wanted t s) c (st .best)) (standOf st)) (stands t d)))
-      ∙ a .before .before .before .loop .inv .1
+  put32-requires-2 : lts.Need-put32-requires-2 (claims t) (walk-at t) walk.Post Inv-loop μ-loop
+  put32-requires-2 c κs = c .before .before .before .before .before .before .before .before .before .before .before .pre .1 .0
 
-walk-loop-less : (t : ℕ) → walk-lts.Need-loop-less (claims t) (walk-at t) walk.Post walk-Inv-loop walk-μ-loop
-walk-loop-less t c = search needs
+  put32-requires-3 : lts.Need-put32-requires-3 (claims t) (walk-at t) walk.Post Inv-loop μ-loop
+  put32-requires-3 c κs = c .before .before .before .before .before .before .before .before .before .before .before .before .before .pre .1 .0
 
-walk-loop-again : (t : ℕ) → walk-lts.Need-loop-again (claims t) (walk-at t) walk.Post walk-Inv-loop walk-μ-loop
-walk-loop-again t c =
-    let d : Came t = c .before .before .before .before .before .before in
-    let r : Round t = d .before .before in
-    let s = of t d in
-    let same = c .before .before .before .before .before .pass-over .ensures .same (not-true _ (c .before .before .if4 .taken)) in (
-      omega arith,
-      on t d (standOf (c .walk .result)) (sym (held t r) ∙ d .before .if3 .taken)
-          (c .walk .ensures
-          ∙ ap₂ (λ (l : List Member) (q : State). advance (s .args .allowance) (walkBest (places t s) (over t s) (wanted t s) (thingsOf (take (s .args .m) l)) (q .best)) (standOf q)) (c .before .replace .ensures) same),
-    )
+  put32-requires-4 : lts.Need-put32-requires-4 (claims t) (walk-at t) walk.Post Inv-loop μ-loop
+  put32-requires-4 c κs = c .before .before .before .before .before .before .before .before .before .before .before .before .before .before .before .pre .1 .0
 
-walk-loop-less-2 : (t : ℕ) → walk-lts.Need-loop-less-2 (claims t) (walk-at t) walk.Post walk-Inv-loop walk-μ-loop
-walk-loop-less-2 t c = search needs
+  array-read-high : lts.Need-array-read-high (claims t) (walk-at t) walk.Post Inv-loop μ-loop
+  array-read-high c = top-few c
 
-walk-loop-again-2 : (t : ℕ) → walk-lts.Need-loop-again-2 (claims t) (walk-at t) walk.Post walk-Inv-loop walk-μ-loop
-walk-loop-again-2 t c =
-    let d : Came t = c .before .before .before .before in
-    let r : Round t = d .before .before in
-    let s = of t d in
-    let p = c .before .before .before .pass-over in
-    (omega arith, on t d (standOf (p .result .state)) (sym (held t r) ∙ d .before .if3 .taken) (p .ensures .over (not-false _ (c .if4 .left)) (places t s) (over t s) (wanted t s) (thingsOf (take (s .args .m) (next t d))) (apart t d)))
+  mul-open-at : lts.Need-mul-open-at (claims t) (walk-at t) walk.Post Inv-loop μ-loop
+  mul-open-at c = omega (arith, top-few c)
 
-walk-loop-less-3 : (t : ℕ) → walk-lts.Need-loop-less-3 (claims t) (walk-at t) walk.Post walk-Inv-loop walk-μ-loop
-walk-loop-less-3 t c = search needs
+  array-read-open-at : lts.Need-array-read-open-at (claims t) (walk-at t) walk.Post Inv-loop μ-loop
+  array-read-open-at c = top-few c
 
-walk-loop-again-3 : (t : ℕ) → walk-lts.Need-loop-again-3 (claims t) (walk-at t) walk.Post walk-Inv-loop walk-μ-loop
-walk-loop-again-3 t c =
-    let r : Round t = c .before in
-    let a : At t = r .before in
-    let s = b t a in
-    (omega arith, sym (again-not (places t s) (over t s) (wanted t s) (s .args .allowance) (things t s) (o t a .open-at .result .top) (o t a .open-at .result .node) (k t a) (standOf (a .before .before .before .loop .st)) (within t a) (sym (held t r) ∙ c .if3 .left)) ∙ a .before .before .before .loop .inv .1)
+  open-at-requires : lts.Need-open-at-requires (claims t) (walk-at t) walk.Post Inv-loop μ-loop
+  open-at-requires c κs =
+      let s = begin c in
+      let there : getD (names c) (s .args .top) 0 < s .args .nodes = subst (λ (a : Member). a .number < s .args .nodes) (top-member c) (top-there (s .pre .1 .1 .0) (wanted s) (s .args .m) (cand c) (long c) (open-so c .fair) (s .args .top) (open-so c .is) (open-so c .whole)) in
+      let room : Room (s .args .nodes) (s .args .listed) (lengths (over-tree s)) = meets (s .pre .1 .1 .0) .counted .room in
+      (omega (arith, there, room .start), omega (arith, there, room .count))
 
--- the candidate that was opened leads over the run
-led : (t : ℕ) (o : Open t) → let b = first t (taken t o) in
-    advance (b .args .allowance) (walkBest (places t b) (over t b) (wanted t b) (things t b) (b .args .s .best)) (standOf (b .args .s))
-    ≡ leads (places t b) (over t b) (wanted t b) (b .args .allowance) (things t b) (o .open-at .result .top) (entriesOf (over t b .shape) (node (o .open-at .result .node))) (standOf (taken t o .take-step .result .state))
-led t o =
-    let b = first t (taken t o) in
-    let opens = not-false _ (o .before .if1 .left) in
-    let u = turned t (taken t o) in
-    let top : o .open-at .result .top ≡ topmost (over t b .shape) (things t b) = o .open-at .ensures .0 ∙ u .top opens in
-    let is : member (things t b) (o .open-at .result .top) ≡ node (o .open-at .result .node) = o .open-at .ensures .1 .is in
-    rw (← top, is) at (walk-open (places t b) (over t b) (wanted t b) (b .args .allowance) (things t b) (standOf (b .args .s)) (standOf (taken t o .take-step .result .state)) (u .left opens) (u .whole opens) (u .steps opens) (u .room opens))
+  -- the candidate is ready to be opened
+  ready : (c : Open) → let s = begin (c .before) in Ready (places s) (over-tree s) (wanted s) (s .args .m) (cand (c .before)) (c .open-at .result)
+  ready c =
+      let d = c .before in
+      let s = begin d in
+      record {
+        passes = s .pre .1 .1 .0;
+        long = long d;
+        fair = open-so d .fair;
+        opens = opens (s .pre .1 .1 .0) (wanted s) (s .args .m) (cand d) (long d) (open-so d .fair) (s .args .top) (open-so d .is) (open-so d .whole) (s .args .t15) (c .open-at .result) refl
+            (c .open-at .ensures
+            ∙ ap (λ (a : Member). record { top = s .args .top; node = a .number; kind = getD (s .args .t15) (s .args .top) 0; leaf = eqb (a .level) 1; first = startOf (over-tree s .shape) (a .number); many = countOf (over-tree s .shape) (a .number) }) (sym (top-member d)));
+      }
 
-walk-returns-2 : (t : ℕ) → walk-lts.Need-returns-2 (claims t) (walk-at t) walk.Post walk-Inv-loop walk-μ-loop
-walk-returns-2 t c =
-    let d : Open t = c .before .before .before in
-    let e = first t (taken t d) in
-    sym (ended (places t e) (over t e) (wanted t e) (e .args .allowance) (things t e) (d .open-at .result .top) (d .open-at .result .node) (c .before .before .loop .k) (standOf (c .before .before .loop .st)) (omega (arith, c .if2 .left, d .open-at .ensures .1 .many)))
-    ∙ c .before .before .loop .inv .1
-    ∙ sym (led t d)
+  levels-are : (d : Made) → map (λ (a : Member). a .level) (take (begin d .args .m) (cand d)) ≡ take (begin d .args .m) (begin d .args .t19)
+  levels-are d = levels-of (begin d .args .t19) (names d) (ends d) (begin d .args .m) (eight d .level)
+
+  top-so : (c : Open) → c .open-at .result .top ≡ begin (c .before) .args .top
+  top-so c = ap (λ (o : Opening). o .top) (c .open-at .ensures)
+
+  -- the level of the opened member, as the code reads it
+  high-so : (c : Open) → let s = begin (c .before) in 0 < getD (s .args .t19) (s .args .top) 0
+  high-so c =
+      let d = c .before in
+      let s = begin d in
+      let is = subst (λ (i : ℕ). getD (s .args .t19) i 0 ≡ level (over-tree s .shape) (member (things d) i)) (top-so c) (high-is (ready c) (s .args .t19) (levels-are d)) in
+      let first = subst (λ (i : ℕ). 0 < level (over-tree s .shape) (member (things d) i)) (sym (open-so d .is)) (open-is (over-tree s .shape) (things d) (open-so d .whole)) in
+      omega (arith, is, first)
+
+  sub-put8 : lts.Need-sub-put8 (claims t) (walk-at t) walk.Post Inv-loop μ-loop
+  sub-put8 c = high-so (c .before)
+
+  put8-requires : lts.Need-put8-requires (claims t) (walk-at t) walk.Post Inv-loop μ-loop
+  put8-requires c κs = top-few (c .before .before)
+
+  find-topmost-requires : lts.Need-find-topmost-requires (claims t) (walk-at t) walk.Post Inv-loop μ-loop
+  find-topmost-requires c κs = begin (c .before .before .before .before) .pre .1 .1 .1 .0 .most
+
+  array-read-if1 : lts.Need-array-read-if1 (claims t) (walk-at t) walk.Post Inv-loop μ-loop
+  array-read-if1 c = c .find-topmost .ensures .0
+
+  -- the levels of the candidates that come of it
+  abbrev lowered : Found → List ℕ
+  lowered c = c .before .before .put8 .last .0
+
+  -- the candidate with a thing one level lower for the member: its levels, its topmost member, and whether it is a group
+  module _ (c : Found) (x : Thing) (one : level (over-tree (begin (made c)) .shape) (member (things (made c)) (opened c .open-at .result .top)) ≡ suc (level (over-tree (begin (made c)) .shape) x)) where
+    abbrev first : Start
+    first = begin (made c)
+
+    abbrev below : List Thing
+    below = set (things (made c)) (opened c .open-at .result .top) x
+
+    levels-below : take (first .args .m) (lowered c) ≡ map (level (over-tree first .shape)) below
+    levels-below =
+        ap (take (first .args .m)) (c .before .before .put8 .ensures ∙ ap (λ (i : ℕ). set (first .args .t19) i (getD (first .args .t19) i 0 - 1)) (sym (top-so (opened c))))
+        ∙ levels-next (ready (opened c)) (first .args .t19) (levels-are (made c)) x one
+
+    top-below : c .find-topmost .result ≡ topmost (over-tree first .shape) below
+    top-below = c .find-topmost .ensures .1 (over-tree first .shape) below levels-below
+
+    top-within : c .find-topmost .result < first .args .m
+    top-within =
+        let size = length-set (things (made c)) (opened c .open-at .result .top) x ∙ many (first .pre .1 .1 .0) (wanted first) (first .args .m) (cand (made c)) (long (made c)) (open-so (made c) .fair) in
+        omega (arith, top-below, size, topmost-below (over-tree first .shape) below (omega (arith, size, first .pre .1 .1 .1 .0 .some)))
+
+    level-below : level (over-tree first .shape) (member below (topmost (over-tree first .shape) below)) ≡ getD (lowered c) (c .find-topmost .result) 0
+    level-below = ap (λ (i : ℕ). level (over-tree first .shape) (member below i)) (sym top-below) ∙ level-at (over-tree first .shape) (first .args .m) (lowered c) below (c .find-topmost .result) levels-below top-within
+
+  take-groups-requires : lts.Need-take-groups-requires (claims t) (walk-at t) walk.Post Inv-loop μ-loop
+  take-groups-requires c κs =
+      let shut = c .before .before .before .before .before .before .before .before .before .before .before in
+      let f : Found = shut .before in
+      let s = begin (made f) in (
+        s .pre .1 .1 .0,
+        (
+          s .pre .1 .1 .1 .0,
+          (
+            subst (λ (i : ℕ). Opened (places s) (over-tree s) (wanted s) (s .args .m) (cand (made f)) i (best-of s)) (sym (top-so (opened f))) (open-so (made f)),
+            ((ready (opened f) .opens, λ x one. group-of (over-tree s .shape) (below f x one) (level-below f x one ∙ shut .if1 .taken)), eight (made f) .number),
+          ),
+        ),
+      )
+
+  -- an end, as it is called for
+  ends-so : (d : Made) (to : Stand Best) → let s = begin d in Led (places s) (over-tree s) (wanted s) (s .args .allowance) (s .args .m) (cand d) (s .args .top) (stand (s .args .steps .now) false (best-of s)) to →
+      Led (places s) (over-tree s) (wanted s) (s .args .allowance) (s .args .m) (called s) (s .args .top) (stand (s .args .steps .now) false (best-of s)) to
+  ends-so d to e = let s = begin d in subst (λ (l : List Member). Led (places s) (over-tree s) (wanted s) (s .args .allowance) (s .args .m) l (s .args .top) (stand (s .args .steps .now) false (best-of s)) to) (sym (cand-so d)) e
+
+  ended : (c : Open) (to : Stand Best) → let s = begin (c .before) in
+      Led (places s) (over-tree s) (wanted s) (s .args .allowance) (s .args .m) (cand (c .before)) (c .open-at .result .top) (stand (s .args .steps .now) false (best-of s)) to →
+      Led (places s) (over-tree s) (wanted s) (s .args .allowance) (s .args .m) (called s) (s .args .top) (stand (s .args .steps .now) false (best-of s)) to
+  ended c to e =
+      let s = begin (c .before) in
+      ends-so (c .before) to (subst (λ (i : ℕ). Led (places s) (over-tree s) (wanted s) (s .args .allowance) (s .args .m) (cand (c .before)) i (stand (s .args .steps .now) false (best-of s)) to) (top-so c) e)
+
+  returns : lts.Need-returns (claims t) (walk-at t) walk.Post Inv-loop μ-loop
+  returns c =
+      let f : Found = c .before .before .before .before .before .before .before .before .before .before .before .before .before in
+      ended (opened f) _ (c .take-groups .ensures)
+
+  -- what the loop keeps, over the levels as they were
+  abbrev Goes : (c : Open) → List ℕ → ℕ → Best → ℕ → Type 0
+  Goes c levels steps best k =
+      let s = begin (c .before) in
+      Going (places s) (over-tree s) (wanted s) (s .args .allowance) (s .args .m) (membersAt levels (names (c .before)) (ends (c .before))) (c .open-at .result) (stand (s .args .steps .now) false (best-of s)) steps best k
+
+  back : (c : Found) → let s = begin (made c) in set (lowered c) (s .args .top) (getD (s .args .t19) (s .args .top) 0) ≡ s .args .t19
+  back c =
+      let s = begin (made c) in
+      ap (λ (l : List ℕ). set l (s .args .top) (getD (s .args .t19) (s .args .top) 0)) (c .before .before .put8 .ensures) ∙ set-set (s .args .t19) (s .args .top) (getD (s .args .t19) (s .args .top) 0 - 1) (getD (s .args .t19) (s .args .top) 0) ∙ set-getD (s .args .t19) (s .args .top) 0
+
+  keeps : (c : Found) {steps k : ℕ} {best : Best} → let s = begin (made c) in Goes (opened c) (s .args .t19) steps best k → Goes (opened c) (set (lowered c) (s .args .top) (getD (s .args .t19) (s .args .top) 0)) steps best k
+  keeps c {steps} {k} {best} g = subst (λ (l : List ℕ). Goes (opened c) l steps best k) (sym (back c)) g
+
+  kept : (c : Loop) → Goes (opened (found c)) (begin (made (found c)) .args .t19) (c .loop .steps) (bestAt (c .loop .known) (c .loop .squared) (c .loop .places)) (c .loop .k)
+  kept c = subst (λ (l : List ℕ). Goes (opened (found c)) l (c .loop .steps) (bestAt (c .loop .known) (c .loop .squared) (c .loop .places)) (c .loop .k)) (back (found c)) (c .loop .inv)
+
+  loop-holds : lts.Need-loop-holds (claims t) (walk-at t) walk.Post Inv-loop μ-loop
+  loop-holds c =
+      let f : Found = c .before in
+      keeps f (record { some = omega arith; led = refl; near = open-so (made f) .near; eight = open-so (made f) .eight })
+
+  add-here : lts.Need-add-here (claims t) (walk-at t) walk.Post Inv-loop μ-loop
+  add-here c =
+      let r = ready (opened (found (round c))) in
+      omega (arith, in-few (r .passes) (r .opens) (round c .loop .k) (c .before .if2 .taken))
+
+  add-k : lts.Need-add-k (claims t) (walk-at t) walk.Post Inv-loop μ-loop
+  add-k c = search needs
+
+  holds-at-requires : lts.Need-holds-at-requires (claims t) (walk-at t) walk.Post Inv-loop μ-loop
+  holds-at-requires c κs =
+      let o = opened (found (round c)) in
+      let s = begin (o .before) in
+      let r = ready o in
+      let k = round c .loop .k in
+      let e = reads (r .passes) (r .opens) k (c .before .if2 .taken) in
+      ((in-list (r .passes) (r .opens) k (c .before .if2 .taken), kind-small (s .args .t15) (s .args .m) (r .opens) (s .pre .1 .1 .1 .0)), (λ u. e .place u .1 .1, λ u. omega (arith, e .node u, meets (r .passes) .counted .room .kits)))
+
+  -- entry k of the run, as a thing
+  abbrev y : Entry → Thing
+  y c = entry (over-tree (begin (made (found (round c)))) .shape) (opened (found (round c)) .open-at .result .node) (round c .loop .k)
+
+  held : (c : Asked) → let o = opened (found (round (at c))) in let s = begin (o .before) in c .holds-at .result ≡ holds (places s) (over-tree s) (getD (wanted s) (o .open-at .result .top) 0) (y (at c))
+  held c =
+      let o = opened (found (round (at c))) in
+      let s = begin (o .before) in
+      let r = ready o in
+      c .holds-at .ensures (s .args .x .now) (s .args .y .now)
+      ∙ ap₂ (λ (x : Thing) (kind : ℕ). holds (places s) (over-tree s) kind x) (is-entry (r .passes) (r .opens) (round (at c) .loop .k) (at c .before .if2 .taken)) (r .opens .kind)
+
+  take-step-requires : lts.Need-take-step-requires (claims t) (walk-at t) walk.Post Inv-loop μ-loop
+  take-step-requires c κs = tt
+
+  returns-2 : lts.Need-returns-2 (claims t) (walk-at t) walk.Post Inv-loop μ-loop
+  returns-2 c =
+      let a : Asked = c .before .before .before .before in
+      let l = round (at a) in
+      let o = opened (found l) in
+      ended o _ (spends (ready o) _ _ (kept l) (at a .before .if2 .taken) (sym (held a) ∙ c .before .before .before .if3 .taken) (c .before .take-step .ensures .none (not-true _ (c .if4 .taken))))
+
+  mul-p : lts.Need-mul-p (claims t) (walk-at t) walk.Post Inv-loop μ-loop
+  mul-p c =
+      let e : Entry = c .before .before .before .before .before in
+      let r = ready (opened (found (round e))) in
+      omega (arith, in-few (r .passes) (r .opens) (round e .loop .k) (e .before .if2 .taken))
+
+  shared-slice-read-p : lts.Need-shared-slice-read-p (claims t) (walk-at t) walk.Post Inv-loop μ-loop
+  shared-slice-read-p c =
+      let e : Entry = c .before .before .before .before .before .before in
+      let r = ready (opened (found (round e))) in
+      in-list (r .passes) (r .opens) (round e .loop .k) (e .before .if2 .taken)
+
+  wide16-requires : lts.Need-wide16-requires (claims t) (walk-at t) walk.Post Inv-loop μ-loop
+  wide16-requires c κs = tt
+
+  box-of-requires : lts.Need-box-of-requires (claims t) (walk-at t) walk.Post Inv-loop μ-loop
+  box-of-requires c κs =
+      let e : Entry = c .before .before .before .before .before .before .before in
+      let o = opened (found (round e)) in
+      let s = begin (o .before) in
+      let r = ready o in
+      let d : Reads (r .passes) (o .open-at .result .leaf) (c .wide16 .result) = subst (Reads (r .passes) (o .open-at .result .leaf)) (sym (c .wide16 .ensures)) (reads (r .passes) (r .opens) (round e .loop .k) (e .before .if2 .taken)) in
+      let q : Room (s .args .nodes) (s .args .listed) (lengths (over-tree s)) = meets (r .passes) .counted .room in
+      (λ u. (d .place u .0, d .place u .1 .0), λ u. let n = d .node u in (omega (arith, q .x-lo), (omega (arith, q .x-hi), (omega (arith, q .y-lo), omega (arith, q .y-hi)))))
+
+  limit-of-requires : lts.Need-limit-of-requires (claims t) (walk-at t) walk.Post Inv-loop μ-loop
+  limit-of-requires c κs = tt
+
+  -- the box of the entry, and the boxes of the candidate
+  is-box : (c : Boxed) → let s = begin (made (found (round (at (shown c))))) in c .box-of .result ≡ boxOf (places s) (over-tree s .sides) (y (at (shown c)))
+  is-box c =
+      let e : Entry = at (shown c) in
+      let o = opened (found (round e)) in
+      let s = begin (o .before) in
+      let r = ready o in
+      c .box-of .ensures (s .args .kit .now) ∙ ap (boxOf (places s) (over-tree s .sides)) (ap (thing (o .open-at .result .leaf)) (c .before .wide16 .ensures) ∙ is-entry (r .passes) (r .opens) (round e .loop .k) (e .before .if2 .taken))
+
+  boxes-so : (d : Made) → boxesOf (take (begin d .args .m) (cand d)) ≡ take (begin d .args .m) (boxesAt (ends d))
+  boxes-so d = boxes-of (begin d .args .t19) (names d) (ends d) (begin d .args .m)
+
+  row-of-requires : lts.Need-row-of-requires (claims t) (walk-at t) walk.Post Inv-loop μ-loop
+  row-of-requires c κs =
+      let b : Boxed = c .before .before .before .before .before .before in
+      let e : Entry = at (shown b) in
+      let d = made (found (round e)) in
+      let s = begin d in
+      let r = ready (opened (found (round e))) in
+      ((s .pre .1 .1 .1 .0 .most, top-in d), (subst AllRanged (boxes-so d) (boxes-ranged (r .passes) (wanted s) (s .args .m) (cand d) (r .long) (r .fair)), subst Ranged (sym (is-box b)) (ranged (r .passes) (y e) (real (r .passes) (r .opens) (round e .loop .k) (e .before .if2 .taken)))))
+
+  abbrev limit : Measured → ℕ
+  limit c = c .before .before .before .before .before .limit-of .result
+
+  -- what the row says
+  row-is : (c : Measured) →
+      let e : Entry = at (shown (boxed c)) in
+      let o = opened (found (round e)) in
+      let s = begin (o .before) in
+      UpTo (limit c) (farthest (boxOf (places s) (over-tree s .sides) (y e)) (without (o .open-at .result .top) (boxesOf (take (s .args .m) (cand (o .before)))))) (c .row-of .result)
+  row-is c =
+      let e : Entry = at (shown (boxed c)) in
+      let o = opened (found (round e)) in
+      let d = o .before in
+      let s = begin d in
+      subst (λ (l : List Box). UpTo (limit c) (farthest (boxOf (places s) (over-tree s .sides) (y e)) (without (o .open-at .result .top) l)) (c .row-of .result)) (sym (boxes-so d))
+      (subst (λ (i : ℕ). UpTo (limit c) (farthest (boxOf (places s) (over-tree s .sides) (y e)) (without i (take (s .args .m) (boxesAt (ends d))))) (c .row-of .result)) (sym (top-so o))
+      (subst (λ (b : Box). UpTo (limit c) (farthest b (without (s .args .top) (take (s .args .m) (boxesAt (ends d))))) (c .row-of .result)) (is-box (boxed c))
+      (c .row-of .ensures)))
+
+  -- the entry holds the kind, and a step was taken
+  holding : (c : Measured) → let e = at (shown (boxed c)) in let o = opened (found (round e)) in let s = begin (o .before) in holds (places s) (over-tree s) (getD (wanted s) (o .open-at .result .top) 0) (y e) ≡ true
+  holding c = sym (held (shown (boxed c))) ∙ boxed c .before .before .before .before .before .before .if3 .taken
+
+  abbrev steps-now : Measured → ℕ
+  steps-now c = boxed c .before .before .before .before .take-step .last .1 .0
+
+  counted : (c : Measured) → let l = round (at (shown (boxed c))) in (l .loop .steps < begin (made (found l)) .args .allowance) × (steps-now c ≡ l .loop .steps + 1)
+  counted c = boxed c .before .before .before .before .take-step .ensures .some (not-false _ (boxed c .before .before .before .if4 .left))
+
+  -- ---- the candidate of the entry, which is walked in its turn
+
+  abbrev measured : Sent → Measured
+  measured c = c .before .before .before .before .before .before .before .before .before .before .before
+
+  abbrev entered : Sent → Entry
+  entered c = at (shown (boxed (measured c)))
+
+  abbrev maker : Sent → Found
+  maker c = found (round (entered c))
+
+  abbrev box-read : Sent → Box
+  box-read c = boxed (measured c) .box-of .result
+
+  -- the sides of its box, as they go through the machine's bits
+  told : (c : Sent) → (toZ w32 (ofZ w32 (box-read c .x .lo)) ≡ box-read c .x .lo) × ((toZ w32 (ofZ w32 (box-read c .x .hi)) ≡ box-read c .x .hi) × ((toZ w32 (ofZ w32 (box-read c .y .lo)) ≡ box-read c .y .lo) × (toZ w32 (ofZ w32 (box-read c .y .hi)) ≡ box-read c .y .hi)))
+  told c =
+      let x = c .before .before .struct-told2 .given in
+      let y = c .struct-told4 .given in
+      (toZ-ofZ (fit (box-read c .x .lo) (x .0 .1)), (toZ-ofZ (fit (box-read c .x .hi) (x .1 .0 .1)), (toZ-ofZ (fit (box-read c .y .lo) (y .0 .1)), toZ-ofZ (fit (box-read c .y .hi) (y .1 .0 .1)))))
+
+  abbrev sent : Sent → List Member
+  sent c =
+      let d = made (maker c) in
+      let s = begin d in
+      membersAt (lowered (maker c)) (set (names d) (s .args .top) (getD (s .args .entries .now) (opened (maker c) .open-at .result .first + round (entered c) .loop .k) 0))
+      (sides (set (ends d .x-lo) (s .args .top) (toZ w32 (ofZ w32 (box-read c .x .lo)))) (set (ends d .x-hi) (s .args .top) (toZ w32 (ofZ w32 (box-read c .x .hi)))) (set (ends d .y-lo) (s .args .top) (toZ w32 (ofZ w32 (box-read c .y .lo)))) (set (ends d .y-hi) (s .args .top) (toZ w32 (ofZ w32 (box-read c .y .hi)))))
+
+  lower-entry : (c : Sent) → let d = made (maker c) in level (over-tree (begin d) .shape) (member (things d) (opened (maker c) .open-at .result .top)) ≡ suc (level (over-tree (begin d) .shape) (y (entered c)))
+  lower-entry c = lower (ready (opened (maker c))) (round (entered c) .loop .k) (entered c .before .if2 .taken)
+
+  abbrev came : Sent → List Member
+  came c = next (ready (opened (maker c))) (round (entered c) .loop .k) (entered c .before .if2 .taken)
+
+  sent-so : (c : Sent) → sent c ≡ came c
+  sent-so c =
+      let f = maker c in
+      let d = made f in
+      let s = begin d in
+      let o = opened f in
+      let k = round (entered c) .loop .k in
+      let p = getD (s .args .entries .now) (o .open-at .result .first + k) 0 in
+      let b = box-read c in
+      let high = getD (s .args .t19) (s .args .top) 0 in
+      let low : high - 1 ≡ level (over-tree s .shape) (y (entered c)) = ap (λ (i : ℕ). getD (s .args .t19) i 0 - 1) (sym (top-so o)) ∙ lower-is (ready o) (s .args .t19) (levels-are d) (y (entered c)) (lower-entry c) in
+      ap₂ (λ (l : List ℕ) (e : Sides). membersAt l (set (names d) (s .args .top) p) e) (f .before .before .put8 .ensures)
+      (ap₂ (λ (u v : ℤ). sides (set (ends d .x-lo) (s .args .top) u) (set (ends d .x-hi) (s .args .top) v) (set (ends d .y-lo) (s .args .top) (toZ w32 (ofZ w32 (b .y .lo)))) (set (ends d .y-hi) (s .args .top) (toZ w32 (ofZ w32 (b .y .hi))))) (told c .0) (told c .1 .0)
+      ∙ ap₂ (λ (u v : ℤ). sides (set (ends d .x-lo) (s .args .top) (b .x .lo)) (set (ends d .x-hi) (s .args .top) (b .x .hi)) (set (ends d .y-lo) (s .args .top) u) (set (ends d .y-hi) (s .args .top) v)) (told c .1 .1 .0) (told c .1 .1 .1))
+      ∙ members-set (s .args .t19) (names d) (ends d) (eight d) (s .args .top) (top-few d) (high - 1) p b
+      ∙ ap₂ (λ (i : ℕ) (a : Member). set (cand d) i a) (sym (top-so o)) (member-is (ready o) k (entered c .before .if2 .taken) (high - 1) p b low refl (is-box (boxed (measured c))))
+
+  -- it is no group
+  open-next : (c : Sent) → let d = made (maker c) in groupOf (over-tree (begin d) .shape) (set (things d) (opened (maker c) .open-at .result .top) (y (entered c))) ≡ none
+  open-next c =
+      let f = maker c in
+      no-group (over-tree (begin (made f)) .shape) (below f (y (entered c)) (lower-entry c)) (λ e. round (entered c) .before .if1 .left (sym (level-below f (y (entered c)) (lower-entry c)) ∙ e))
+
+  -- it is opened in its turn
+  next-opened : (c : Sent) → let s = begin (made (maker c)) in let l = round (entered c) in
+      Opened (places s) (over-tree s) (wanted s) (s .args .m) (sent c) (maker c .find-topmost .result) (bestAt (l .loop .known) (l .loop .squared) (l .loop .places))
+  next-opened c =
+      let f = maker c in
+      let d = made f in
+      let s = begin d in
+      let l = round (entered c) in
+      let r = ready (opened f) in
+      let b = entered c .before .if2 .taken in
+      let best = bestAt (l .loop .known) (l .loop .squared) (l .loop .places) in
+      let things-so = next-things r (l .loop .k) b in
+      subst (λ (q : List Member). Opened (places s) (over-tree s) (wanted s) (s .args .m) q (f .find-topmost .result) best) (sym (sent-so c)) (record {
+        fair = next-fair r (l .loop .k) b;
+        is = top-below f (y (entered c)) (lower-entry c) ∙ ap (topmost (over-tree s .shape)) (sym things-so);
+        whole = ap (groupOf (over-tree s .shape)) things-so ∙ open-next c;
+        near = comes r (l .loop .k) b best (kept l .near) (measured c .before .before .before .before .before .limit-of .ensures) (row-is (measured c)) (c .before .before .before .before .before .before .before .before .before .before .if5 .taken);
+        eight = kept l .eight;
+      })
+
+  walk-requires : lts.Need-walk-requires (claims t) (walk-at t) walk.Post Inv-loop μ-loop
+  walk-requires c κs =
+      let f = maker c in
+      let d = made f in
+      let s = begin d in
+      let size : total (take (s .args .m) (s .args .t19)) ≡ levels (over-tree s .shape) (things d) = total-of (over-tree s .shape) (things d) (levels-so (ready (opened f)) (s .args .t19) (levels-are d)) in
+      let less : total (take (s .args .m) (lowered f)) ≡ levels (over-tree s .shape) (below f (y (entered c)) (lower-entry c)) = total-of (over-tree s .shape) (below f (y (entered c)) (lower-entry c)) (levels-below f (y (entered c)) (lower-entry c)) in
+      let one = one-lower (over-tree s .shape) (things d) (opened f .open-at .result .top) (y (entered c)) (inside (ready (opened f))) (lower-entry c) in
+      let falls : total (take (s .args .m) (lowered f)) < t = omega (arith, size, less, one, s .pre .0) in
+      (falls, (top-few d, (s .pre .1 .1 .0, (s .pre .1 .1 .1 .0, next-opened c))))
+
+  -- where the walk stands after it
+  abbrev after : Taken → Stand Best
+  after c =
+      let last = c .walk .last .1 .1 .1 .1 .1 .1 .1 .1 .1 .1 .1 .1 .1 .1 .1 .1 .1 .1 .1 .1 .1 .1 .1 .1 .1 .1 .1 .1 .1 .1 in
+      stand (last .0) (c .walk .result) (bestAt (last .1 .0) (last .1 .1 .0) (last .1 .1 .1 .0))
+
+  abbrev below-of : Sent → List Thing
+  below-of c = below (maker c) (y (entered c)) (lower-entry c)
+
+  taken : (c : Taken) → let f = maker (c .before) in let s = begin (made f) in let l = round (entered (c .before)) in
+      Led (places s) (over-tree s) (wanted s) (s .args .allowance) (s .args .m) (came (c .before)) (topmost (over-tree s .shape) (below-of (c .before))) (stand (steps-now (measured (c .before))) false (bestAt (l .loop .known) (l .loop .squared) (l .loop .places))) (after c)
+  taken c =
+      let f = maker (c .before) in
+      let s = begin (made f) in
+      let l = round (entered (c .before)) in
+      let from = stand (steps-now (measured (c .before))) false (bestAt (l .loop .known) (l .loop .squared) (l .loop .places)) in
+      subst (λ (i : ℕ). Led (places s) (over-tree s) (wanted s) (s .args .allowance) (s .args .m) (came (c .before)) i from (after c)) (top-below f (y (entered (c .before))) (lower-entry (c .before)))
+      (subst (λ (q : List Member). Led (places s) (over-tree s) (wanted s) (s .args .allowance) (s .args .m) q (f .find-topmost .result) from (after c)) (sent-so (c .before)) (c .walk .ensures))
+
+  returns-3 : lts.Need-returns-3 (claims t) (walk-at t) walk.Post Inv-loop μ-loop
+  returns-3 c =
+      let d : Sent = c .before .before in
+      let e = entered d in
+      let o = opened (maker d) in
+      let s = begin (o .before) in
+      let last = c .before .walk .last .1 .1 .1 .1 .1 .1 .1 .1 .1 .1 .1 .1 .1 .1 .1 .1 .1 .1 .1 .1 .1 .1 .1 .1 .1 .1 .1 .1 .1 .1 in
+      subst (λ (w : Bool). Led (places s) (over-tree s) (wanted s) (s .args .allowance) (s .args .m) (called s) (s .args .top) (stand (s .args .steps .now) false (best-of s)) (stand (last .0) w (bestAt (last .1 .0) (last .1 .1 .0) (last .1 .1 .1 .0)))) (c .if6 .taken)
+      (ended o (after (c .before)) (stops (ready o) _ _ (kept (round e)) (e .before .if2 .taken) (holding (measured d)) (counted (measured d)) (measured d .before .before .before .before .before .limit-of .ensures) (row-is (measured d)) (d .before .before .before .before .before .before .before .before .before .before .if5 .taken) (open-next d) (taken (c .before)) (c .if6 .taken)))
+
+  -- one entry less is left
+  fewer : (e : Entry) → let o = opened (found (round e)) in o .open-at .result .many - (round e .loop .k + 1) < o .open-at .result .many - round e .loop .k
+  fewer e = omega (arith, e .before .if2 .taken)
+
+  loop-less : lts.Need-loop-less (claims t) (walk-at t) walk.Post Inv-loop μ-loop
+  loop-less c = fewer (entered (c .before .before))
+
+  loop-again : lts.Need-loop-again (claims t) (walk-at t) walk.Post Inv-loop μ-loop
+  loop-again c =
+      let d : Sent = c .before .before in
+      let e = entered d in
+      let o = opened (maker d) in
+      keeps (maker d) (goes-on (ready o) _ _ (kept (round e)) (e .before .if2 .taken) (holding (measured d)) (counted (measured d)) (measured d .before .before .before .before .before .limit-of .ensures) (row-is (measured d)) (d .before .before .before .before .before .before .before .before .before .before .if5 .taken) (open-next d) (taken (c .before)) (c .if6 .left))
+
+  loop-less-2 : lts.Need-loop-less-2 (claims t) (walk-at t) walk.Post Inv-loop μ-loop
+  loop-less-2 c = fewer (at (shown (boxed (c .before))))
+
+  loop-again-2 : lts.Need-loop-again-2 (claims t) (walk-at t) walk.Post Inv-loop μ-loop
+  loop-again-2 c =
+      let d : Measured = c .before in
+      let e = at (shown (boxed d)) in
+      let f = found (round e) in
+      keeps f (drops (ready (opened f)) _ _ (kept (round e)) (e .before .if2 .taken) (holding d) (counted d) (d .before .before .before .before .before .limit-of .ensures) (row-is d) (omega (arith, d .row-of .ok)) (c .if5 .left))
+
+  loop-less-3 : lts.Need-loop-less-3 (claims t) (walk-at t) walk.Post Inv-loop μ-loop
+  loop-less-3 c = search needs
+
+  loop-again-3 : lts.Need-loop-again-3 (claims t) (walk-at t) walk.Post Inv-loop μ-loop
+  loop-again-3 c =
+      let a : Asked = c .before in
+      let l = round (at a) in
+      keeps (found l) (skips (ready (opened (found l))) _ _ (kept l) (at a .before .if2 .taken) (sym (held a) ∙ c .if3 .left))
+
+  returns-4 : lts.Need-returns-4 (claims t) (walk-at t) walk.Post Inv-loop μ-loop
+  returns-4 c =
+      let l : Loop = c .before .before in
+      let o = opened (found l) in
+      ended o _ (over (ready o) _ _ (kept l) (c .if2 .left))
 
 pub +walk-spec : {M : Type 1} → statement M
-+walk-spec = close μ-walk λ t. walk-lts.spec (claims t)
++walk-spec =
+    close μ-walk λ t.
+    lts.spec
+    (claims t)
     (walk-at t)
     walk.Post
-    walk-Inv-loop
-    walk-μ-loop
-    (walk-take-step-requires t)
-    (walk-returns t)
-    (walk-open-at-requires t)
-    (walk-loop-holds t)
-    (walk-add-k t)
-    (walk-add-holds-at t)
-    (walk-holds-at-requires t)
-    (walk-near-at-requires t)
-    (walk-pass-over-requires t)
-    (walk-replace-requires t)
-    (walk-walk-requires t)
-    (walk-loop-less t)
-    (walk-loop-again t)
-    (walk-loop-less-2 t)
-    (walk-loop-again-2 t)
-    (walk-loop-less-3 t)
-    (walk-loop-again-3 t)
-    (walk-returns-2 t)
+    Inv-loop
+    μ-loop
+    (put16-requires t)
+    (put32-requires t)
+    (put32-requires-2 t)
+    (put32-requires-3 t)
+    (put32-requires-4 t)
+    (array-read-high t)
+    (mul-open-at t)
+    (array-read-open-at t)
+    (open-at-requires t)
+    (sub-put8 t)
+    (put8-requires t)
+    (find-topmost-requires t)
+    (array-read-if1 t)
+    (take-groups-requires t)
+    (returns t)
+    (loop-holds t)
+    (add-here t)
+    (add-k t)
+    (holds-at-requires t)
+    (take-step-requires t)
+    (returns-2 t)
+    (mul-p t)
+    (shared-slice-read-p t)
+    (wide16-requires t)
+    (box-of-requires t)
+    (limit-of-requires t)
+    (row-of-requires t)
+    (walk-requires t)
+    (returns-3 t)
+    (loop-less t)
+    (loop-again t)
+    (loop-less-2 t)
+    (loop-again-2 t)
+    (loop-less-3 t)
+    (loop-again-3 t)
+    (returns-4 t)

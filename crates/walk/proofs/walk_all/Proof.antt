@@ -1,25 +1,35 @@
-use mathlib.Core.Path.{_≡_, sym, ap, subst, _∙_}
+use mathlib.Core.Path.{_≡_, refl, sym, ap, ap₂, subst, _∙_}
 use mathlib.Core.Bool.{true, false, false≢true}
 use mathlib.Core.List.{List}
 use mathlib.Core.Option.{none}
 use Prim.Native.Nat.{ℕ, _<_}
 use native.Mathlib.Omega.{arith}
-use lib.ListN.{length, take, replicate}
+use mir.Syntax.{w32}
+use mir.Val.{ofZ, toZ}
+use mir.Facts.{toZ-ofZ}
+use lib.IntN.{ℤ}
+use lib.ListN.{length, take, getD, set, replicate}
 use lib.Seq.{length-take-le}
 use borrow.Author.Needs.{needs}
+use Rattle.plane.specs.declared.Box.{Box}
+use Rattle.plane.proofs.SignedLaws.{fit}
 use Rattle.table.specs.Table.{Table, table}
 use Rattle.tree.specs.Tree.{Tree, Thing, node}
 use Rattle.tree.specs.Lent.{shape, sides, tree}
-use Rattle.walks.specs.Allowance.{stand, advance}
-use Rattle.closest.specs.Group.{spread}
+use Rattle.tree.specs.Rules.{lengths, Room}
+use Rattle.members.specs.Best.{bestAt}
+use Rattle.walks.specs.Allowance.{Stand, stand}
+use Rattle.closest.specs.Candidate.{member, topmost, groupOf, entriesOf}
 use Rattle.closest.specs.Walk.{roots}
 use Rattle.closest.proofs.AnswerLaws.{begun-of}
-use Rattle.walk.specs.Members.{memberOf, AllRanged, boxesOf, thingsOf, Fair}
-use Rattle.walk.specs.State.{bestOf, walkBest}
-use Rattle.walk.specs.declared.Member.{Member}
+use Rattle.walk.specs.Members.{Member, memberOf, membersAt, thingsOf}
+use Rattle.walk.specs.Opening.{Opened, Led}
+use Rattle.walk.specs.State.{leads}
+use Rattle.members.specs.declared.Best.{Best}
 use Rattle.walk.proofs.BridgeLaws.{stood}
 use Rattle.walk.proofs.EntryLaws.{meets}
-use Rattle.walk.proofs.RootLaws.{boxes-roots, ranged-roots, things-roots, fair-roots}
+use Rattle.walk.proofs.TurnLaws.{taken-spent, taken-open}
+use Rattle.walk.proofs.RootLaws.{columns-roots, things-roots, fair-roots, top-roots, whole-roots}
 use Rattle.walk.proofs.walk_all.Statement.{statement}
 use Rattle.walk.proofs.walk_all.Tie as tie
 
@@ -42,43 +52,101 @@ many s =
     let eight : length (s .args .kinds) ≡ 8 = search needs in
     length-take-le (s .args .m) (s .args .kinds) (omega (arith, s .pre .1 .0 .most))
 
--- the root's member
-abbrev begin : tie.After-member-at → tie.Start
-begin u = u .before .before .before .before .before .before .before
+room : (s : tie.Start) → Room (s .args .nodes) (s .args .listed) (lengths (over s))
+room s = meets (s .pre .0) .counted .room
 
-is-root : (u : tie.After-member-at) → u .member-at .result ≡ memberOf (places (begin u)) (over (begin u)) (node 0)
-is-root u =
-    let a = begin u .args in
-    u .member-at .ensures (a .nodes) (a .listed) (a .start .now) (a .count .now) (a .entries .now) (a .kit .now) (a .kits .now)
-
-member-at-requires : tie.Need-member-at-requires
-member-at-requires c κs =
+box-at-requires : tie.Need-box-at-requires
+box-at-requires c κs =
     let s = c .before .before .before .before .before .before in
-    let q = meets (s .pre .0) .counted .room in
+    let q = room s in
     let l = some s in
-    (omega arith, (λ e. absurd (false≢true e), λ _. (omega (arith, q .level), (omega (arith, q .x-lo), (omega (arith, q .x-hi), (omega (arith, q .y-lo), omega (arith, q .y-hi)))))))
+    (omega (arith, q .x-lo), (omega (arith, q .x-hi), (omega (arith, q .y-lo), omega (arith, q .y-hi))))
 
-spread-of-requires : tie.Need-spread-of-requires
-spread-of-requires c κs =
-    let u : tie.After-member-at = c .before in
-    let s = begin u in
-    (s .pre .1 .0 .most, subst (λ (a : Member). AllRanged (take (s .args .m) (replicate 8 (a .at)))) (sym (is-root u)) (ranged-roots (s .pre .0) (some s) (wanted s) (s .args .m) (s .pre .1 .0 .most)))
+abbrev begin : tie.After-box-at → tie.Start
+begin c = c .before .before .before .before .before .before .before
+
+shared-slice-read-walk : tie.Need-shared-slice-read-walk
+shared-slice-read-walk c = let s = begin (c .before .before .before .before) in omega (arith, some s, room s .level)
+
+-- the root's member
+abbrev root : tie.Start → Member
+root s = memberOf (places s) (over s) (node 0)
+
+abbrev Sent : Type 0
+Sent = tie.After-struct-told8
+
+abbrev boxed : Sent → tie.After-box-at
+boxed c = c .before .before .before .before .before .before .before .before .before .before .before .before .before .before .before .before
+
+-- a side, as it goes through the machine's bits
+abbrev passed : ℤ → ℤ
+passed z = toZ w32 (ofZ w32 z)
+
+abbrev sent : Sent → List Member
+sent c =
+    let b = boxed c .box-at .result in
+    let l = getD (begin (boxed c) .args .level .now) 0 0 in
+    membersAt (replicate 8 l) (set (replicate 8 0) 0 0)
+    (sides (set (replicate 8 (passed (b .x .lo))) 0 (passed (b .x .lo))) (set (replicate 8 (passed (b .x .hi))) 0 (passed (b .x .hi))) (set (replicate 8 (passed (b .y .lo))) 0 (passed (b .y .lo))) (set (replicate 8 (passed (b .y .hi))) 0 (passed (b .y .hi))))
+
+sent-so : (c : Sent) → sent c ≡ replicate 8 (root (begin (boxed c)))
+sent-so c =
+    let s = begin (boxed c) in
+    let b = boxed c .box-at .result in
+    let x = c .before .before .before .before .before .before .before .before .before .before .struct-told2 .given in
+    let y = c .before .before .before .before .before .before .before .before .struct-told4 .given in
+    let l = getD (s .args .level .now) 0 0 in
+    ap₂ (λ (u v : ℤ). membersAt (replicate 8 l) (replicate 8 0) (sides (replicate 8 u) (replicate 8 v) (replicate 8 (passed (b .y .lo))) (replicate 8 (passed (b .y .hi))))) (toZ-ofZ (fit (b .x .lo) (x .0 .1))) (toZ-ofZ (fit (b .x .hi) (x .1 .0 .1)))
+    ∙ ap₂ (λ (u v : ℤ). membersAt (replicate 8 l) (replicate 8 0) (sides (replicate 8 (b .x .lo)) (replicate 8 (b .x .hi)) (replicate 8 u) (replicate 8 v))) (toZ-ofZ (fit (b .y .lo) (y .0 .1))) (toZ-ofZ (fit (b .y .hi) (y .1 .0 .1)))
+    ∙ columns-roots (record { level = l; number = 0; at = b })
+    ∙ ap (λ (d : Box). replicate 8 (record { level = l; number = 0; at = d })) (boxed c .box-at .ensures)
+
+-- nothing is known at first
+abbrev nothing : Best
+nothing = bestAt false 0 (replicate 8 0)
+
+-- the candidate that is the root for each kind
+things : (s : tie.Start) → thingsOf (take (s .args .m) (replicate 8 (root s))) ≡ roots (wanted s)
+things s = things-roots (s .pre .0) (some s) (wanted s) (s .args .m) (s .pre .1 .0 .most) (many s)
+
+roots-so : (s : tie.Start) → roots (wanted s) ≡ replicate (s .args .m) (node 0)
+roots-so s = ap (λ (n : ℕ). replicate n (node 0)) (many s)
+
+top : (s : tie.Start) → topmost (over s .shape) (roots (wanted s)) ≡ 0
+top s = ap (topmost (over s .shape)) (roots-so s) ∙ top-roots (s .pre .0) (some s) (wanted s) (s .args .m) (s .pre .1 .0 .most) (s .pre .1 .0 .some)
+
+whole : (s : tie.Start) → groupOf (over s .shape) (roots (wanted s)) ≡ none
+whole s = ap (groupOf (over s .shape)) (roots-so s) ∙ whole-roots (s .pre .0) (some s) (wanted s) (s .args .m) (s .pre .1 .0 .most) (s .pre .1 .0 .some)
+
+open-so : (s : tie.Start) → Opened (places s) (over s) (wanted s) (s .args .m) (replicate 8 (root s)) 0 nothing
+open-so s = record {
+  fair = fair-roots (s .pre .0) (some s) (wanted s) (s .args .m) (s .pre .1 .0 .most) (many s);
+  is = sym (ap (topmost (over s .shape)) (things s) ∙ top s);
+  whole = ap (groupOf (over s .shape)) (things s) ∙ whole s;
+  near = λ e. absurd (false≢true e);
+  eight = refl;
+}
 
 walk-requires : tie.Need-walk-requires
 walk-requires c κs =
-    let u : tie.After-member-at = c .before .before in
-    let s = begin u in
-    let fair : Fair (places s) (over s) (wanted s) (take (s .args .m) (replicate 8 (u .member-at .result))) = subst (λ (a : Member). Fair (places s) (over s) (wanted s) (take (s .args .m) (replicate 8 a))) (sym (is-root u)) (fair-roots (s .pre .0) (some s) (wanted s) (s .args .m) (s .pre .1 .0 .most) (many s)) in
-    let boxes : take (s .args .m) (replicate 8 (u .member-at .result .at)) ≡ boxesOf (take (s .args .m) (replicate 8 (u .member-at .result))) = subst (λ (a : Member). take (s .args .m) (replicate 8 (a .at)) ≡ boxesOf (take (s .args .m) (replicate 8 a))) (sym (is-root u)) (sym (boxes-roots (s .pre .0) (some s) (wanted s) (s .args .m) (s .pre .1 .0 .most))) in
-    (s .pre .0, (s .pre .1 .0, (fair, c .spread-of .ensures ∙ ap spread boxes)))
+    let s = begin (boxed c) in
+    (omega arith, (s .pre .0, (s .pre .1 .0, subst (λ (l : List Member). Opened (places s) (over s) (wanted s) (s .args .m) l 0 nothing) (sym (sent-so c)) (open-so s))))
 
 returns : tie.Need-returns
 returns c =
-    let u : tie.After-member-at = c .before .before .before in
-    let s = begin u in
-    let things : thingsOf (take (s .args .m) (replicate 8 (u .member-at .result))) ≡ roots (wanted s) = ap (λ (a : Member). thingsOf (take (s .args .m) (replicate 8 a))) (is-root u) ∙ things-roots (s .pre .0) (some s) (wanted s) (s .args .m) (s .pre .1 .0 .most) (many s) in
-    stood (meets (s .pre .0)) (wanted s) (s .pre .1 .1) (s .args .allowance) (c .walk .result)
-    (c .walk .ensures ∙ ap (λ (d : List Thing). advance (s .args .allowance) (walkBest (places s) (over s) (wanted s) d (bestOf (places s) none)) (stand 0 false (bestOf (places s) none))) things)
+    let d : Sent = c .before in
+    let s = begin (boxed d) in
+    let last = c .walk .last .1 .1 .1 .1 .1 .1 .1 .1 .1 .1 .1 .1 .1 .1 .1 .1 .1 .1 .1 .1 .1 .1 .1 .1 .1 .1 .1 .1 .1 .1 in
+    let after : Stand Best = stand (last .0) (c .walk .result) (bestAt (last .1 .0) (last .1 .1 .0) (last .1 .1 .1 .0)) in
+    let led : Led (places s) (over s) (wanted s) (s .args .allowance) (s .args .m) (replicate 8 (root s)) 0 (stand 1 false nothing) after = subst (λ (l : List Member). Led (places s) (over s) (wanted s) (s .args .allowance) (s .args .m) l 0 (stand 1 false nothing) after) (sent-so d) (c .walk .ensures) in
+    let from = ap₂ (λ (q : List Thing) (i : ℕ). leads (places s) (over s) (wanted s) (s .args .allowance) q i (entriesOf (over s .shape) (member q i)) (stand 1 false nothing)) (things s) (sym (top s)) in
+    stood (meets (s .pre .0)) (wanted s) (s .pre .1 .1) (s .args .allowance) after
+    (led .led ∙ from ∙ sym (taken-open (places s) (over s) (wanted s) (s .args .allowance) (roots (wanted s)) 0 nothing (d .before .before .before .before .before .before .before .before .before .before .before .before .before .before .before .if1 .taken) (λ e. absurd (false≢true e)) (whole s)))
+
+returns-2 : tie.Need-returns-2
+returns-2 c =
+    let s = begin (c .before) in
+    stood (meets (s .pre .0)) (wanted s) (s .pre .1 .1) (s .args .allowance) (stand 0 true nothing) (sym (taken-spent (places s) (over s) (wanted s) (s .args .allowance) (roots (wanted s)) 0 nothing (c .if1 .left)))
 
 pub walk-all-spec : {M : Type 1} → statement M
-walk-all-spec = tie.close (tie.spec member-at-requires spread-of-requires walk-requires returns)
+walk-all-spec = tie.close (tie.spec box-at-requires shared-slice-read-walk walk-requires returns returns-2)

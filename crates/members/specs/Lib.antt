@@ -1,0 +1,3 @@
+-- What the contracts about members cite.
+pub mod Boxes
+pub mod Best

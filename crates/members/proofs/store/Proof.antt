@@ -28,7 +28,7 @@ loop-holds : tie.Need-loop-holds Inv-loop μ-loop
 loop-holds c = (omega arith, (c .pre .1 .1, refl))
 
 number-at-requires : tie.Need-number-at-requires Inv-loop μ-loop
-number-at-requires c κs = let s = c .before .before in ((s .pre .0 .0, (s .pre .0 .1, c .loop-test .taken)), s .pre .1 .0)
+number-at-requires c κs = let s = c .before .before in ((s .pre .0 .0, (s .pre .0 .1, omega (arith, c .loop-test .taken))), s .pre .1 .0)
 
 mul-places : tie.Need-mul-places Inv-loop μ-loop
 mul-places c = omega arith

@@ -227,7 +227,7 @@ loop-again c =
     let s = begin l in
     let row = c .before .before .before .before .before .before in
     let made = c .before .before .before .before in
-    let near : d .row-of .result ≤ d .before .limit-of .result = row .if4 .taken in
+    let near : d .row-of .result ≤ d .before .limit-of .result = omega (arith, row .if4 .taken) in
     let rest : made .before .rest-of .result ≡ spread (without (s .args .o .top) (boxesOf (take (s .args .m) (cand s)))) = made .before .rest-of .ensures ∙ ap (λ (b : List Box). spread (without (s .args .o .top) b)) (sym (boxes-so s)) in
     let wide = made .larger .ensures ∙ ap₂ max rest (row-is d .near near) ∙ sym (next-made (ready s) (l .loop .k) (at a .before .if1 .taken)) in
     let eight = group-long (s .args .m) (s .args .numbers .now) (s .args .o .top) (getD (s .args .entries .now) (s .args .o .first + l .loop .k) 0) (s .pre .1 .1 .1 .1) (s .pre .1 .0 .most) in
@@ -243,7 +243,7 @@ loop-again-2 : tie.Need-loop-again-2 Inv-loop μ-loop
 loop-again-2 c =
     let a = asked (c .before) in
     let l = round (at a) in
-    (drops (ready (begin l)) _ _ (l .loop .inv .0) (at a .before .if1 .taken) (holding (c .before)) (counted (c .before)) (c .before .before .limit-of .ensures) (row-is (c .before)) (omega (arith, c .before .row-of .ok)) (c .if4 .left), l .loop .inv .1)
+    (drops (ready (begin l)) _ _ (l .loop .inv .0) (at a .before .if1 .taken) (holding (c .before)) (counted (c .before)) (c .before .before .limit-of .ensures) (row-is (c .before)) (omega (arith, c .before .row-of .ok)) (omega (arith, c .if4 .left)), l .loop .inv .1)
 
 loop-less-3 : tie.Need-loop-less-3 Inv-loop μ-loop
 loop-less-3 c = search needs

@@ -9,7 +9,6 @@ pub mod ValueLaws
 pub mod ParseLaws
 pub mod SignedLaws
 pub mod ReadLaws
-pub mod QuickLaws
 pub mod KnownLaws
 pub mod CodeLaws
 pub mod Soundings

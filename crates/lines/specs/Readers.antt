@@ -4,14 +4,14 @@ use Prim.Native.Nat.{ℕ, _+_, _-_, _≤_, _<_}
 use mathlib.Core.Path.{_≡_}
 use mathlib.Core.Bool.{Bool, true, false}
 use mathlib.Core.List.{List}
-use lib.ListN.{length, take, drop, getD}
+use lib.ListN.{length, take, drop}
 use lib.IntN.{ℤ, pos}
 use Rattle.lines.specs.declared.Number.{Number}
 use Rattle.lines.specs.declared.Coordinate.{Coordinate}
 use Rattle.lines.specs.declared.Value.{Value}
 use Rattle.lines.specs.Text.{unglyph, Digit}
-use Rattle.lines.specs.Form.{Form, InForm, inForm}
-use Rattle.lines.specs.Line.{line, none, cut, longest, due, Got, refused, got, readLine}
+use Rattle.lines.specs.Form.{Form, inForm}
+use Rattle.lines.specs.Line.{line, none, cut, longest, due, Got, refused, got}
 
 -- the bytes of s from `at` up to e
 abbrev pub between : List ℕ → ℕ → ℕ → List ℕ
@@ -45,27 +45,6 @@ numberOf f t = valueOf (λ v. record { ok = true; value = v }) (record { ok = fa
 
 abbrev pub coordinateOf : Form ℤ → List ℕ → Coordinate
 coordinateOf f t = valueOf (λ v. record { ok = true; value = v }) (record { ok = false; value = pos 0 }) f t
-
--- t begins with the text of v, which is in form, and a line feed (10): `count` bytes
-pub record Leads {A : Type 0} (f : Form A) (t : List ℕ) (count : ℕ) (v : A) : Type 0 where
-  pub width : ℕ
-  pub counts : count ≡ width + 1
-  pub within : width < length t
-  pub feed : getD t width 0 ≡ 10
-  pub form : InForm f (take width t)
-  pub value : v ≡ f .value (take width t)
-
--- 1 where t begins with a minus (45), else 0
-pub record Minus (t : List ℕ) (r : ℕ) : Type 0 where
-  pub most : r ≤ 1
-  pub inside : r ≤ length t
-  pub there : r ≡ 1 → getD t 0 0 ≡ 45
-  pub none : r ≡ 0 → 0 < length t → getD t 0 0 ≡ 45 → ⊥
-
--- t begins with a line that reads well, whatever its number: `count` bytes, with its line feed
-pub record ReadsWell {A : Type 0} (key : List ℕ) (f : Form A) (t : List ℕ) (count : ℕ) (v : A) : Type 0 where
-  pub most : count ≤ length t
-  pub read : (n : ℕ) → readLine key f n t ≡ got v (drop count t)
 
 -- where the value of the line at `at` stands, if the line has the due key
 pub record Due (s : List ℕ) (at : ℕ) (key : List ℕ) (v : Value) : Type 0 where

@@ -63,11 +63,6 @@ abbrev pub minus : ℕ → ℤ
 minus zero = pos 0
 minus (suc n) = negsuc n
 
--- a number after a minus, or after none (0)
-abbrev pub withSign : ℕ → ℕ → ℤ
-withSign zero n = pos n
-withSign (suc _) n = minus n
-
 -- what decimal digits stand for, with a minus before them or not
 unfoldable pub signedValue : List ℕ → ℤ
 unfolding ℕ-discrete

@@ -280,7 +280,7 @@ fn quick_place(src: &[u8], at: usize, i: usize) -> QuickPlace
     requires { ⌜ (at ≤ length (now src)) × (i < 4096) ⌝ }
     ensures { λ r. ⌜ (r .ok ≡ true → PlaceReads (now (src .entry)) at i (r .next) (r .x, (r .y, r .kit))) ⌝ }
 {
-    let a = lines::quick_number(&src[at..], b"place=", 4095);
+    let a = quick::quick_number(&src[at..], b"place=", 4095);
     if !a.ok {
         return not_quick();
     }
@@ -288,17 +288,17 @@ fn quick_place(src: &[u8], at: usize, i: usize) -> QuickPlace
         return not_quick();
     }
     let east = at + a.count;
-    let b = lines::quick_coordinate(&src[east..], b"x=");
+    let b = quick::quick_coordinate(&src[east..], b"x=");
     if !b.ok {
         return not_quick();
     }
     let north = east + b.count;
-    let c = lines::quick_coordinate(&src[north..], b"y=");
+    let c = quick::quick_coordinate(&src[north..], b"y=");
     if !c.ok {
         return not_quick();
     }
     let word = north + c.count;
-    let d = lines::quick_bits(&src[word..], b"kit=");
+    let d = quick::quick_bits(&src[word..], b"kit=");
     if !d.ok {
         return not_quick();
     }

@@ -11,7 +11,7 @@ use Rattle.lines.specs.Text.{ascii, decimal}
 use Rattle.lines.specs.Form.{word, natural, coordinate, bits}
 use Rattle.lines.specs.Line.{got, readLine}
 use Rattle.lines.proofs.KnownLaws.{number-same}
-use Rattle.lines.proofs.QuickLaws.{not-ok, reads-at}
+use Rattle.quick.proofs.QuickLaws.{not-ok, reads-at}
 use Rattle.sheet.proofs.PlaceLaws.{place-all}
 use borrow.Author.Needs.{needs}
 use Rattle.sheet.proofs.quick_place.Statement.{statement}

@@ -2,12 +2,12 @@ use Prim.Native.Nat.{_+_, _-_, _≤_}
 use native.Mathlib.Omega.{arith}
 use lib.ListN.{length, take, drop, length-drop, length-take}
 use borrow.Author.Tests.{not-false}
 use Rattle.lines.specs.Form.{natural}
-use Rattle.lines.specs.Readers.{Leads}
-use Rattle.lines.proofs.QuickLaws.{no-coordinate, signed-leads}
+use Rattle.quick.specs.Quick.{Leads}
+use Rattle.quick.proofs.QuickLaws.{no-coordinate, signed-leads}
 use borrow.Author.Needs.{needs}
-use Rattle.lines.proofs.coordinate_to_feed.Statement.{statement}
-use Rattle.lines.proofs.coordinate_to_feed.Tie as tie
+use Rattle.quick.proofs.coordinate_to_feed.Statement.{statement}
+use Rattle.quick.proofs.coordinate_to_feed.Tie as tie
 
 abbrev start : tie.After-minus-at → tie.Start
 start c = c .before .before

@@ -3,12 +3,12 @@ use mathlib.Core.Path.{subst, sym, _∙_}
 use native.Mathlib.Omega.{arith}
 use lib.ListN.{length, getD}
 use lib.Seq.{length-take-le}
 use Rattle.lines.proofs.DigitLaws.{unglyph-low}
 use Rattle.lines.proofs.ParseLaws.{Sofar, sofar-none, sofar-more, digit-make}
-use Rattle.lines.proofs.QuickLaws.{no-number, number-leads}
+use Rattle.quick.proofs.QuickLaws.{no-number, number-leads}
 use borrow.Author.Needs.{needs}
-use Rattle.lines.proofs.number_to_feed.Statement.{statement}
-use Rattle.lines.proofs.number_to_feed.Tie as tie
+use Rattle.quick.proofs.number_to_feed.Statement.{statement}
+use Rattle.quick.proofs.number_to_feed.Tie as tie
 
 abbrev Inv-loop : tie.InvT-loop
 Inv-loop t most a₀ i₀ a i = Sofar 10 t a i × (a ≤ most)

@@ -3,12 +3,12 @@ use mathlib.Core.Path.{sym}
 use native.Mathlib.Omega.{arith}
 use lib.ListN.{length}
 use lib.Seq.{length-take-le}
 use Rattle.lines.specs.Form.{bits}
 use Rattle.lines.proofs.ValueLaws.{number-told}
-use Rattle.lines.proofs.QuickLaws.{no-number}
+use Rattle.quick.proofs.QuickLaws.{no-number}
 use borrow.Author.Needs.{needs}
-use Rattle.lines.proofs.bits_to_feed.Statement.{statement}
-use Rattle.lines.proofs.bits_to_feed.Tie as tie
+use Rattle.quick.proofs.bits_to_feed.Statement.{statement}
+use Rattle.quick.proofs.bits_to_feed.Tie as tie
 
 no-number-requires : tie.Need-no-number-requires
 no-number-requires c κs = search needs

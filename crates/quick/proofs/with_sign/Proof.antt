@@ -3,12 +3,12 @@ use Prim.Native.Nat.{ℕ}
 use native.Mathlib.Omega.{arith}
 use mir.Syntax.{w32}
 use mir.Facts.{toZ-pos}
-use Rattle.lines.specs.Text.{withSign}
 use Rattle.lines.proofs.SignedLaws.{neg-fits, neg-held}
-use Rattle.lines.proofs.QuickLaws.{sign-some}
+use Rattle.quick.specs.Quick.{withSign}
+use Rattle.quick.proofs.QuickLaws.{sign-some}
 use borrow.Author.Needs.{needs}
-use Rattle.lines.proofs.with_sign.Statement.{statement}
-use Rattle.lines.proofs.with_sign.Tie as tie
+use Rattle.quick.proofs.with_sign.Statement.{statement}
+use Rattle.quick.proofs.with_sign.Tie as tie
 
 cast-z : tie.Need-cast-z
 cast-z c = search needs

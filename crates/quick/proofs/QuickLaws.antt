@@ -12,16 +12,16 @@ use lib.Seq.{take-all, drop-drop, drop-cons, getD-take}
 use mir.Syntax.{w32}
 use mir.Val.{toZ, ofZ}
 use mir.Facts.{toZ-ofZ}
-use Rattle.lines.specs.declared.NumberRun.{NumberRun}
-use Rattle.lines.specs.declared.CoordinateRun.{CoordinateRun}
-use Rattle.lines.specs.Text.{NoZero, minus, withSign}
+use Rattle.lines.specs.Text.{NoZero, minus}
 use Rattle.lines.specs.Form.{Form, natural, coordinate}
 use Rattle.lines.specs.Line.{Keyed, fair, got, readLine, lineText}
-use Rattle.lines.specs.Readers.{Leads, Minus, ReadsWell}
 use Rattle.lines.proofs.FormLaws.{Sound, number-form, form-number}
 use Rattle.lines.proofs.SignedLaws.{minus-good, plain-good, minus-fits}
 use Rattle.lines.proofs.ParseLaws.{Sofar, led-empty}
 use Rattle.lines.proofs.PartLaws.{lawful-line}
+use Rattle.quick.specs.declared.NumberRun.{NumberRun}
+use Rattle.quick.specs.declared.CoordinateRun.{CoordinateRun}
+use Rattle.quick.specs.Quick.{withSign, Leads, Minus, ReadsWell}
 
 -- where nothing was read, nothing is said
 pub not-ok : {P : Type 0} (ok : Bool) → ok ≡ false → ok ≡ true → P

@@ -7,15 +7,15 @@ use mathlib.Core.Bool.{true}
 use native.Mathlib.Omega.{arith}
 use lib.ListN.{length, drop, length-drop, length-take}
 use borrow.Author.Tests.{not-false}
-use Rattle.lines.specs.declared.CoordinateRun.{CoordinateRun}
 use Rattle.lines.specs.Form.{coordinate}
 use Rattle.lines.specs.Line.{Keyed}
-use Rattle.lines.specs.Readers.{ReadsWell}
 use Rattle.lines.proofs.FormLaws.{sound-coordinate}
-use Rattle.lines.proofs.QuickLaws.{not-ok, key-room, reads-well}
+use Rattle.quick.specs.declared.CoordinateRun.{CoordinateRun}
+use Rattle.quick.specs.Quick.{ReadsWell}
+use Rattle.quick.proofs.QuickLaws.{not-ok, key-room, reads-well}
 use borrow.Author.Needs.{needs}
-use Rattle.lines.proofs.quick_coordinate.Statement.{statement}
-use Rattle.lines.proofs.quick_coordinate.Tie as tie
+use Rattle.quick.proofs.quick_coordinate.Statement.{statement}
+use Rattle.quick.proofs.quick_coordinate.Tie as tie
 
 abbrev start : tie.Else1 → tie.Start
 start c = c .before .before .before .before

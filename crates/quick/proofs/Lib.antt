@@ -1,0 +1,2 @@
+-- Laws of lines that are read in one go.
+pub mod QuickLaws

@@ -11,7 +11,7 @@ use Rattle.tree.specs.Tree.{Tree}
 use Rattle.verdict.specs.Rules.{says}
 use Rattle.verdict.specs.declared.Verdict.{Verdict}
 use Rattle.build.specs.Room as build
-use Rattle.sheet.specs.Sheet.{Held}
+use Rattle.rows.specs.Sheet.{Held}
 use Rattle.sheet.specs.Write as sheet
 use Rattle.boundary.specs.Kept.{given, buildSays, buildLeaves, buildWords, writeSays, writeLeaves, writeWords}
 

@@ -11,7 +11,7 @@ use Rattle.tree.specs.Rules.{lengths}
 use Rattle.verdict.specs.Rules.{verdict}
 use Rattle.verdict.specs.declared.Verdict.{Verdict}
 use Rattle.build.specs.Room as build
-use Rattle.sheet.specs.Sheet.{Held}
+use Rattle.rows.specs.Sheet.{Held}
 use Rattle.sheet.specs.Write as sheet
 
 -- what was lent afterwards: as it was, where the lent answer has fewer than n words

@@ -12,7 +12,7 @@ ghost use Rattle.table.specs.Table.{table};
 ghost use Rattle.tree.specs.Rules.{checkRules};
 ghost use Rattle.tree.specs.Lent.{shape, sides, tree};
 ghost use Rattle.search.specs.Search.{searched};
-ghost use Rattle.sheet.specs.Write.{asked};
+ghost use Rattle.rows.specs.Sheet.{asked};
 ghost use Rattle.sheet.specs.Read.{reading, sheetOf, columnAfter};
 ghost use Rattle.print.specs.Puts.{Puts};
 ghost use Rattle.answer.specs.Lent.{laid, holding};

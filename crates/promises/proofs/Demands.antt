@@ -27,10 +27,10 @@ use Rattle.search.specs.Search.{searchRules, refused, searched}
 use Rattle.search.specs.declared.Found.{Found}
 use Rattle.search.proofs.DemandLaws.{diameter-le, code-none}
 use Rattle.lines.specs.Part.{Outcome, accepted}
-use Rattle.sheet.specs.Sheet.{Held, Writable, sheetBytes, readSheet}
-use Rattle.sheet.specs.Write.{asked, writeRules}
+use Rattle.rows.specs.Sheet.{Held, Writable, sheetBytes, readSheet, asked}
+use Rattle.rows.proofs.SizeLaws.{bytes-enough}
+use Rattle.sheet.specs.Write.{writeRules}
 use Rattle.sheet.specs.Read.{reading, roomIn, sheetOf}
-use Rattle.sheet.proofs.SizeLaws.{bytes-enough}
 use Rattle.answer.specs.Distance.{rootOf}
 use Rattle.answer.proofs.RootLaws.{root-of}
 use Rattle.reply.specs.Reply.{printed}

@@ -13,7 +13,7 @@ use Rattle.build.specs.Built.{built}
 use Rattle.closest.proofs.AnswerLaws.{answer-unique}
 use Rattle.search.specs.declared.Found.{Found}
 use Rattle.lines.specs.Part.{Outcome, fault, accepted}
-use Rattle.sheet.specs.Sheet.{Held, readSheet}
+use Rattle.rows.specs.Sheet.{Held, readSheet}
 use Rattle.answer.specs.Answer.{refusedLines, answerLines}
 use Rattle.promises.specs.Answers.{Closest, stepsOf, knownAfter, found, Ends, isNone, isSpent, isFound}
 use Rattle.promises.specs.Sheets.{IsSheet, ReadsAs, noSheet, noRoom, aSheet}

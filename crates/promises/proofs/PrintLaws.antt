@@ -19,7 +19,7 @@ use Rattle.search.specs.declared.Found.{Found}
 use Rattle.search.proofs.SearchLaws.{searched-fault}
 use Rattle.lines.specs.Text.{ascii}
 use Rattle.lines.specs.Part.{Outcome, fault, accepted}
-use Rattle.sheet.specs.Sheet.{Held, readSheet}
+use Rattle.rows.specs.Sheet.{Held, readSheet}
 use Rattle.sheet.proofs.ReadingLaws.{sheet-codes}
 use Rattle.answer.specs.Answer.{groupLines, measureLines, wordLine, endLine, needLines, foundLines, stoppedLines, refusedLines, answerLines}
 use Rattle.answer.proofs.AnswerLaws.{of-found, of-none, of-spent, of-refused}

@@ -11,10 +11,10 @@ use Rattle.verdict.specs.declared.Verdict.{Verdict}
 use Rattle.verdict.proofs.RuleLaws.{none-broken, stops, goes-on}
 use Rattle.table.specs.Table.{places, tableRules, Valid}
 use Rattle.lines.specs.Part.{Outcome, fault, accepted}
-use Rattle.sheet.specs.Sheet.{Held, sheetBytes, readSheet}
+use Rattle.rows.specs.Sheet.{Held, sheetBytes, readSheet}
+use Rattle.rows.proofs.SheetLaws.{read-written, written-read}
 use Rattle.sheet.specs.Read.{within}
 use Rattle.sheet.specs.Write.{rule54, writeRules}
-use Rattle.sheet.proofs.SheetLaws.{read-written, written-read}
 use Rattle.sheet.proofs.ReadingLaws.{sheet-codes}
 use Rattle.sheet.proofs.WriteLaws.{too-short, long-enough}
 use Rattle.promises.specs.Reports.{codesOf}

@@ -12,8 +12,7 @@ use Rattle.tree.specs.Lent.{shape, sides, tree}
 use Rattle.verdict.specs.declared.Verdict.{Verdict}
 use Rattle.verdict.specs.Rules.{says}
 use Rattle.build.specs.Room as build-specs
-use Rattle.sheet.specs.Sheet.{Held}
-use Rattle.sheet.specs.Write.{asked}
+use Rattle.rows.specs.Sheet.{Held, asked}
 use Rattle.sheet.specs.Write as write-specs
 use Rattle.plane.proofs.squared.Reads as squared
 use Rattle.plane.proofs.root.Reads as root

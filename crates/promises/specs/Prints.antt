@@ -9,7 +9,7 @@ use Rattle.build.specs.Built.{built}
 use Rattle.closest.specs.Group.{diameter}
 use Rattle.lines.specs.Text.{ascii}
 use Rattle.lines.specs.Part.{fault}
-use Rattle.sheet.specs.Sheet.{Held, readSheet}
+use Rattle.rows.specs.Sheet.{Held, readSheet}
 use Rattle.answer.specs.Answer.{foundLines, stoppedLines, refusedLines}
 use Rattle.promises.specs.Answers.{Closest, NoGroup, stepsOf}
 use Rattle.promises.specs.Sheets.{IsSheet, NoSheet}

@@ -5,7 +5,7 @@ use mathlib.Core.List.{List}
 use Prim.Native.Nat.{ℕ, _≤_, _<_}
 use Rattle.table.specs.Table.{places}
 use Rattle.lines.specs.Part.{Outcome, fault, accepted}
-use Rattle.sheet.specs.Sheet.{Held, Writable, readSheet, sheetBytes}
+use Rattle.rows.specs.Sheet.{Held, Writable, readSheet, sheetBytes}
 
 -- s is the sheet that holds h
 pub record IsSheet (s : List ℕ) (h : Held) : Type 0 where

@@ -14,11 +14,11 @@ use Rattle.build.specs.Built.{built}
 use Rattle.search.specs.Search.{refused, searched}
 use Rattle.search.specs.declared.Found.{Found}
 use Rattle.lines.specs.Part.{Outcome, fault, accepted}
+use Rattle.rows.specs.Sheet.{Held, readSheet}
+use Rattle.rows.proofs.SheetLaws.{written-read}
 use Rattle.sheet.specs.declared.Sheet.{Sheet}
-use Rattle.sheet.specs.Sheet.{Held, readSheet}
 use Rattle.sheet.specs.Lent.{over}
 use Rattle.sheet.specs.Read.{sheetOf, columnTaken}
-use Rattle.sheet.proofs.SheetLaws.{written-read}
 use Rattle.sheet.proofs.ReadingLaws.{is-accepted}
 use Rattle.answer.specs.Answer.{answerLines}
 use Rattle.reply.specs.Reply.{most, printedFor, printed}

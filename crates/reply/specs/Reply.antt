@@ -7,7 +7,7 @@ use lib.ListN.{length}
 use Rattle.build.specs.Built.{built}
 use Rattle.search.specs.Search.{refused, searched}
 use Rattle.lines.specs.Part.{Outcome, fault, accepted}
-use Rattle.sheet.specs.Sheet.{Held, readSheet}
+use Rattle.rows.specs.Sheet.{Held, readSheet}
 use Rattle.answer.specs.Answer.{answerLines}
 
 -- the most bytes of an input

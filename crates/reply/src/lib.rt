@@ -7,7 +7,7 @@ ghost use Rattle.tree.specs.Lent.{shape, sides, tree};
 ghost use Rattle.tree.specs.Rules.{Room, lengths};
 ghost use Rattle.build.specs.Built.{built};
 ghost use Rattle.search.specs.Search.{searched};
-ghost use Rattle.sheet.specs.Sheet.{readSheet};
+ghost use Rattle.rows.specs.Sheet.{readSheet};
 ghost use Rattle.answer.specs.Lent.{laid, holding};
 ghost use Rattle.reply.specs.Reply.{printedFor, printed};
 

@@ -8,7 +8,7 @@ use lib.ListN.{length, drop, set, length-map, length-set}
 use lib.Seq.{drop-cons, set-at}
 use Rattle.lines.specs.Line.{Got, refused, got}
 use Rattle.table.specs.Table.{Table}
-use Rattle.sheet.specs.Sheet.{Place, xOf, yOf, wordOf}
+use Rattle.rows.specs.Sheet.{Place, xOf, yOf, wordOf}
 use Rattle.sheet.specs.Read.{stored}
 
 map-snoc : {A B : Type 0} (f : A → B) (l : List A) (a : A) → map f (l ++ (a ∷ [])) ≡ map f l ++ (f a ∷ [])

@@ -12,7 +12,7 @@ use Rattle.lines.specs.Text.{ascii, decimal, hex, signed, signedValue, width, w
 use Rattle.lines.specs.Form.{inForm, same}
 use Rattle.lines.specs.Line.{cut, due, readLine}
 use Rattle.lines.specs.Part.{several, Outcome, fault, accepted, readAll}
-use Rattle.sheet.specs.Sheet.{Held, placePart, queryPart, sheetPart, readSheet}
+use Rattle.rows.specs.Sheet.{Held, placePart, queryPart, sheetPart, readSheet}
 use Rattle.sheet.specs.Read.{reading, sheetOf, columnAfter}
 
 abbrev one : String

@@ -10,11 +10,12 @@ use Rattle.lines.specs.Text.{ascii}
 use Rattle.lines.specs.Line.{Got, refused, got}
 use Rattle.lines.specs.Part.{next, several, Outcome, fault, accepted, ended, readAll}
 use Rattle.lines.proofs.PartLaws.{lawful-several}
-use Rattle.sheet.specs.Sheet.{Held, Place, fixed, placePart, queryPart, countLine, rows, xOf, held, sheetPart, readSheet}
-use Rattle.sheet.specs.Read.{headPart, passed, sheetOf}
-use Rattle.sheet.proofs.RowLaws.{several-length, rows-columns}
-use Rattle.sheet.proofs.SheetLaws.{lawful-place}
-use Rattle.sheet.proofs.PlaceLaws.{place-lines}
+use Rattle.rows.specs.Sheet.{Held, Place, fixed, placePart, queryPart, countLine, rows, xOf, held, sheetPart, readSheet}
+use Rattle.rows.specs.Parts.{headPart}
+use Rattle.rows.proofs.RowLaws.{several-length, rows-columns}
+use Rattle.rows.proofs.SheetLaws.{lawful-place}
+use Rattle.rows.proofs.PlaceLaws.{place-lines}
+use Rattle.sheet.specs.Read.{sheetOf, passed}
 use Rattle.sheet.proofs.SeveralLaws.{pair, several-lines}
 
 -- what is read after the head, and after the places

@@ -13,8 +13,8 @@ use Rattle.verdict.specs.Rules.{lowest, verdict, says}
 use Rattle.verdict.specs.declared.Verdict.{Verdict}
 use Rattle.lines.specs.Text.{decimal, hex, signed, width, widthIn}
 use Rattle.lines.specs.Part.{several}
-use Rattle.sheet.specs.Sheet.{Held, placePart, queryPart, sheetPart, sheetBytes}
-use Rattle.sheet.specs.Write.{asked, writeRules}
+use Rattle.rows.specs.Sheet.{Held, placePart, queryPart, sheetPart, sheetBytes, asked}
+use Rattle.sheet.specs.Write.{writeRules}
 
 -- no place, and one place
 abbrev nothing : Held

@@ -1,18 +1,17 @@
 -- What reading a place sheet into lent columns comes to.
 -- Assumes nothing.
-use Prim.Native.Nat.{ℕ, _≤_, min}
+use Prim.Native.Nat.{ℕ, min}
 use mathlib.Core.Path.{_≡_}
 use mathlib.Core.List.{List, map}
 use native.Mathlib.Decide.{decLe}
 use lib.IntN.{ℤ}
-use lib.ListN.{length, drop}
+use lib.ListN.{length}
 use Rattle.table.specs.Table.{places}
-use Rattle.lines.specs.Text.{ascii}
 use Rattle.lines.specs.Line.{Got, refused, got}
-use Rattle.lines.specs.Part.{Part, after, Outcome, fault, accepted}
+use Rattle.lines.specs.Part.{Outcome, fault, accepted}
+use Rattle.rows.specs.Sheet.{Held, Place, readSheet}
 use Rattle.sheet.specs.declared.Sheet.{Sheet}
 use Rattle.sheet.specs.Lent.{over}
-use Rattle.sheet.specs.Sheet.{Held, Place, fixed, placePart, countLine, readSheet}
 
 -- how many places there is room for in each of the lent columns
 abbrev pub roomIn : List ℤ → List ℤ → List ℕ → ℕ
@@ -37,10 +36,6 @@ abbrev pub columnAfter : {A : Type 0} → (Held → List A) → Outcome Held →
 columnAfter f (fault c l) before = before
 columnAfter f (accepted h) before = over (f h) before
 
--- the first two lines
-unfoldable pub headPart : Part ℕ
-headPart = after (fixed (ascii "sheet=") (ascii "1")) countLine
-
 -- what was read, without its value
 abbrev pub passed : {A : Type 0} → Got A → Got (Unit {0})
 passed (refused c l) = refused c l
@@ -60,8 +55,3 @@ stored f (got l rest) before after = after ≡ over (map f l) before
 abbrev pub columnTaken : {A : Type 0} → (Held → List A) → Outcome Held → List A → List A → Type 0
 columnTaken f (fault c l) before after = Unit {0}
 columnTaken f (accepted h) before after = after ≡ over (f h) before
-
--- the lines of place i, which begin at `at`, read well, whatever the number of the first; the next line begins at `to`
-pub record PlaceReads (s : List ℕ) (at i to : ℕ) (p : Place) : Type 0 where
-  pub most : to ≤ length s
-  pub read : (n : ℕ) → placePart i .read n (drop at s) ≡ got p (drop to s)

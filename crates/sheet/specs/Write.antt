@@ -5,14 +5,10 @@ use mathlib.Core.List.{List, [], _∷_, _++_}
 use native.Mathlib.Decide.{decLe}
 use lib.Dec.{lit≤}
 use lib.ListN.{length}
-use Rattle.table.specs.Table.{Table, tableRules}
+use Rattle.table.specs.Table.{tableRules}
 use Rattle.verdict.specs.Rules.{Rule}
+use Rattle.rows.specs.Sheet.{Held, sheetBytes}
 use Rattle.sheet.specs.Lent.{over}
-use Rattle.sheet.specs.Sheet.{Held, sheetBytes}
-
--- what the writer is asked to write
-abbrev pub asked : Table → ℕ → ℕ → Held
-asked t want budget = record { table = t; want = want; budget = budget }
 
 -- 54: the buffer is not too short for the sheet
 abbrev pub rule54 : Held → ℕ → Rule

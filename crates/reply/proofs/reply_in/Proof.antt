@@ -5,7 +5,7 @@ use lib.Seq.{length-take-le}
 use borrow.Author.Needs.{needs}
 use Rattle.table.specs.Table.{Valid}
 use Rattle.search.specs.declared.Found.{Found}
-use Rattle.sheet.specs.Sheet.{readSheet}
+use Rattle.rows.specs.Sheet.{readSheet}
 use Rattle.answer.specs.Answer.{answerLines}
 use Rattle.answer.specs.Lent.{laid, holding}
 use Rattle.reply.specs.Reply.{printedFor}

@@ -6,9 +6,9 @@ use lib.Seq.{drop-cons}
 use Rattle.lines.specs.Line.{got}
 use Rattle.lines.specs.Part.{several, Outcome}
 use Rattle.lines.proofs.ReadLaws.{told-refused, told-got}
-use Rattle.sheet.specs.Sheet.{Held, placePart, queryPart}
-use Rattle.sheet.specs.Read.{passed, sheetOf}
-use Rattle.sheet.proofs.HeadLaws.{head-few}
+use Rattle.rows.specs.Sheet.{Held, placePart, queryPart}
+use Rattle.rows.proofs.HeadLaws.{head-few}
+use Rattle.sheet.specs.Read.{sheetOf, passed}
 use Rattle.sheet.proofs.ScanLaws.{scan-2, scan-3, scan-53, scan-all}
 use borrow.Author.Needs.{needs}
 use Rattle.sheet.proofs.ending.Statement.{statement}

@@ -9,10 +9,10 @@ use mir.Val.{SFits}
 use mir.Facts.{toZ-ofZ}
 use Rattle.table.specs.Table.{table}
 use Rattle.lines.proofs.ReadLaws.{told-refused, told-got}
-use Rattle.sheet.specs.Sheet.{Place, placePart, xOf, yOf, wordOf}
-use Rattle.sheet.proofs.PlaceLaws.{place-lines}
-use Rattle.sheet.proofs.ColumnLaws.{Columns, column-none, column-more, column-stored, column-unsaid}
+use Rattle.rows.specs.Sheet.{Place, placePart, xOf, yOf, wordOf}
+use Rattle.rows.proofs.PlaceLaws.{place-lines}
 use Rattle.sheet.proofs.SeveralLaws.{Passed, passed-none, passed-more, passed-refused, passed-all, passed-refusal, passed-well}
+use Rattle.sheet.proofs.ColumnLaws.{Columns, column-none, column-more, column-stored, column-unsaid}
 use borrow.Author.Needs.{needs}
 use Rattle.sheet.proofs.fill.Statement.{statement}
 use Rattle.sheet.proofs.fill.Tie as tie

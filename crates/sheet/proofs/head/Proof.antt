@@ -42,17 +42,17 @@ use denote.Triple.Walked.{says, needs, Stays, stay-none, walkOf, goes-none, Walk
 use denote.Exit.{yes}
 use denote.Triple.Clauses.{ensured, lasts}
 use Rattle.lines.specs.Readers.{Read}
-use Rattle.sheet.specs.declared.HeadLines.{HeadLines}
-use Rattle.sheet.specs.Read.{headPart}
+use Rattle.rows.specs.declared.HeadLines.{HeadLines}
+use Rattle.rows.specs.Parts.{headPart}
+use Rattle.rows.proofs.HeadLines as S
+use Rattle.rows.proofs.HeadLines.Laws as S′
+use Rattle.rows.proofs.head_at as step
+use Rattle.rows.proofs.head_at.Symbol as step-def
+use Rattle.rows.proofs.head_at.Symbol.{name as #rows·head-at}
+use Rattle.rows.proofs.head_at.Met as step-thm
 use Rattle.sheet.specs.declared.Reader.{Reader}
 use Rattle.sheet.proofs.Reader as T
 use Rattle.sheet.proofs.Reader.Laws as T′
-use Rattle.sheet.proofs.HeadLines as S
-use Rattle.sheet.proofs.HeadLines.Laws as S′
-use Rattle.sheet.proofs.head_at as step
-use Rattle.sheet.proofs.head_at.Symbol as step-def
-use Rattle.sheet.proofs.head_at.Symbol.{name as #sheet·head-at}
-use Rattle.sheet.proofs.head_at.Met as step-thm
 use Rattle.sheet.proofs.head.Key.{name as #sheet·head}
 use Rattle.sheet.proofs.head as head-of
 use Rattle.sheet.proofs.head.Statement as stated
@@ -127,7 +127,7 @@ module _ {M : Type 1} (𝓤 : URA M) (H : Heap 𝓤) (A : Atoms 𝓤) (W : Given
       suffices ! _ (ends-at 𝓤 H A head-of.ended stayed (head-of.clauses 𝓤 H A mem run) W (((κ, tt), (q, tt), tt, (d, tt), (mach ∷ [], tt)), tt) u r (tt, tt) (tt, tt)) $ says ! e $
       move ! (1 ∷ []) $ frame ! $ nothing ! $ move ! (2 ∷ 0 ∷ []) $ fjoin ! $ frame ! $ done !
 
-  module _ (C : Calls 𝓤 H) (Λ : Loops 𝓤 H) (fm : FmC 𝓤 H (W .laws) C) (known : Triple 𝓤 (C #sheet·head-at) (StepAt 𝓤 H A mem run)) where
+  module _ (C : Calls 𝓤 H) (Λ : Loops 𝓤 H) (fm : FmC 𝓤 H (W .laws) C) (known : Triple 𝓤 (C #rows·head-at) (StepAt 𝓤 H A mem run)) where
     walk : Holds (hasTy (T′.mir (named 0)) mach) × WT mach → ent 𝓤 (onEntry 𝓤 H A head-of.signature (κ, tt) (q, tt) (d, tt) (mach ∷ [], tt)) (WpFn 𝓤 H C Λ code.function (mach ∷ []) Post)
     walk wt =
         qed W (raw (onEntry 𝓤 H A head-of.signature (κ, tt) (q, tt) (d, tt) (mach ∷ [], tt)) ∷ []) ∵ enter ! C Λ code.function (mach ∷ []) _ $
@@ -145,13 +145,13 @@ module _ {M : Type 1} (𝓤 : URA M) (H : Heap 𝓤) (A : Atoms 𝓤) (W : Given
         move ! (9 ∷ 10 ∷ []) $ free1 ! $ move ! (7 ∷ 8 ∷ []) $ free1 ! $ move ! (5 ∷ 6 ∷ []) $ free1 ! $ move ! (3 ∷ 4 ∷ []) $ free1 ! $ free0 ! $ by ! (exits r u e)))))))))
 
 module _ {M : Type 1} (𝓤 : URA M) (H : Heap 𝓤) (A : Atoms 𝓤) (W : Given 𝓤 H A) (mem : Memory → SProp 𝓤) (run : Routine → Fun 𝓤) where
-  head-walks : (C : Calls 𝓤 H) (Λ : Loops 𝓤 H) → FmC 𝓤 H (W .laws) C → Triple 𝓤 (C #sheet·head-at) (StepAt 𝓤 H A mem run)
+  head-walks : (C : Calls 𝓤 H) (Λ : Loops 𝓤 H) → FmC 𝓤 H (W .laws) C → Triple 𝓤 (C #rows·head-at) (StepAt 𝓤 H A mem run)
       → Walks 𝓤 H A head-of.ended stayed (WpFn 𝓤 H C Λ code.function) (head-of.clauses 𝓤 H A mem run)
   head-walks C Λ fm known = walked 𝓤 H A head-of.ended stayed (head-of.clauses 𝓤 H A mem run) (WpFn 𝓤 H C Λ code.function) (λ κs. (LL.vals (T.the-type (namedLft 1 0 tt κs)) (T′.the-laws (namedLft 1 0 tt κs)), tt)) (λ κs. (LL.tells (T.the-type (namedLft 1 0 tt κs)) (T′.the-laws (namedLft 1 0 tt κs)), tt))
       (λ κs qs bounds a g are. needs 𝓤 (a .0 .at ≤ length (now (a .0 .src))) _ (λ within. walk 𝓤 H A W mem run (κs .0) (qs .0) (a .0) within C Λ fm known (LL.lawful (T.the-type (namedLft 1 0 tt κs)) (T′.the-laws (namedLft 1 0 tt κs)) 𝓤 H A W .typed (a .0) _ (are .0) .0)))
 
 head-meets : {M : Type 1} (𝓤 : URA M) (H : Heap 𝓤) (A : Atoms 𝓤) (W : Given 𝓤 H A) (mem : Memory → SProp 𝓤) (run : Routine → Fun 𝓤) (𝓣 : Tables 𝓤 H)
-    → Triple 𝓤 (𝓣 .C #sheet·head-at) (StepAt 𝓤 H A mem run)
+    → Triple 𝓤 (𝓣 .C #rows·head-at) (StepAt 𝓤 H A mem run)
     → Meets 𝓤 H A head-of.signature (WpFn 𝓤 H (𝓣 .C) (𝓣 .Λ) code.function) (head-of.spec 𝓤 H A mem run)
 head-meets 𝓤 H A W mem run 𝓣 known-step = walk-meets 𝓤 H A head-of.ended stayed W (goes-none 𝓤 H A W 1 B yes (λ κs x f. refl), tt) (head-of.clauses 𝓤 H A mem run) (WpFn 𝓤 H (𝓣 .C) (𝓣 .Λ) code.function) (WpFn-mono 𝓤 H (W .laws) 𝓣 code.function)
     (head-walks 𝓤 H A W mem run (𝓣 .C) (𝓣 .Λ) (fmOf 𝓤 H (W .laws) 𝓣) known-step)
@@ -162,4 +162,4 @@ head-spec 𝓤 H 𝓜 𝓖 𝓡 =
     entered 𝓤 H (tripleOf 𝓤 H (𝓖 .A) head-of.signature (head-of.spec 𝓤 H (𝓖 .A) (𝓜 .mem) (𝓡 .run)))
     (tables 𝓤 H 𝓜 𝓡 code.env .C) (tables 𝓤 H 𝓜 𝓡 code.env .Λ) #sheet·head code.function (code.unfolded 𝓤 H 𝓜 𝓡)
     (head-meets 𝓤 H (𝓖 .A) (givenOf 𝓤 H 𝓜 𝓖) (𝓜 .mem) (𝓡 .run) (tablesOf 𝓤 H 𝓜 (tables 𝓤 H 𝓜 𝓡 code.env))
-    (cited 𝓤 H (StepAt 𝓤 H (𝓖 .A) (𝓜 .mem) (𝓡 .run)) 𝓜 𝓡 code.env #sheet·head-at step-def.routine code.calls-sheet·head-at (step-thm.met 𝓤 H 𝓜 𝓖 𝓡)))
+    (cited 𝓤 H (StepAt 𝓤 H (𝓖 .A) (𝓜 .mem) (𝓡 .run)) 𝓜 𝓡 code.env #rows·head-at step-def.routine code.calls-rows·head-at (step-thm.met 𝓤 H 𝓜 𝓖 𝓡)))

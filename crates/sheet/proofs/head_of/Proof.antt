@@ -37,13 +37,13 @@ use denote.Triple.Walked.{says, Stays, stay-none-slice, walkOf, goes-none-slice,
 use denote.Exit.{yes}
 use denote.Triple.Clauses.{ensured, lasts}
 use Rattle.lines.specs.Readers.{Read}
-use Rattle.sheet.specs.Read.{headPart}
+use Rattle.rows.specs.Parts.{headPart}
+use Rattle.rows.specs.declared.HeadLines.{HeadLines}
+use Rattle.rows.proofs.HeadLines as S
+use Rattle.rows.proofs.HeadLines.Laws as S′
 use Rattle.sheet.specs.declared.Reader.{Reader}
-use Rattle.sheet.specs.declared.HeadLines.{HeadLines}
 use Rattle.sheet.proofs.Reader as T
 use Rattle.sheet.proofs.Reader.Laws as T′
-use Rattle.sheet.proofs.HeadLines as S
-use Rattle.sheet.proofs.HeadLines.Laws as S′
 use Rattle.sheet.proofs.new as new
 use Rattle.sheet.proofs.new.Symbol as new-def
 use Rattle.sheet.proofs.new.Symbol.{name as #sheet·new}

@@ -3,8 +3,8 @@ use mathlib.Core.List.{List, []}
 use native.Mathlib.Omega.{arith}
 use lib.ListN.{drop}
 use Rattle.lines.proofs.ReadLaws.{told-refused, told-got}
-use Rattle.sheet.specs.Sheet.{Place, placePart}
-use Rattle.sheet.proofs.PlaceLaws.{place-lines}
+use Rattle.rows.specs.Sheet.{Place, placePart}
+use Rattle.rows.proofs.PlaceLaws.{place-lines}
 use Rattle.sheet.proofs.SeveralLaws.{Passed, passed-none, passed-more, passed-refused, passed-all, passed-refusal, passed-well}
 use borrow.Author.Needs.{needs}
 use Rattle.sheet.proofs.places_at.Statement.{statement}

@@ -42,9 +42,10 @@ use denote.Triple.Walked.{says, needs, Stays, stay-none, walkOf, goes-none, Walk
 use denote.Exit.{yes}
 use denote.Triple.Clauses.{ensured, lasts}
 use Rattle.lines.specs.Line.{got}
+use Rattle.rows.specs.Sheet.{readSheet}
+use Rattle.rows.specs.Parts.{headPart}
 use Rattle.sheet.specs.declared.Sheet.{Sheet}
-use Rattle.sheet.specs.Sheet.{readSheet}
-use Rattle.sheet.specs.Read.{headPart, sheetOf}
+use Rattle.sheet.specs.Read.{sheetOf}
 use Rattle.sheet.specs.declared.Reader.{Reader}
 use Rattle.sheet.proofs.Reader as T
 use Rattle.sheet.proofs.Reader.Laws as T′

@@ -1,4 +1,4 @@
-use Rattle.sheet.proofs.HeadLaws.{head-few}
+use Rattle.rows.proofs.HeadLaws.{head-few}
 use Rattle.sheet.proofs.rest_at.Statement.{statement}
 use Rattle.sheet.proofs.rest_at.Tie as tie
 

@@ -37,8 +37,9 @@ use denote.Triple.Walked.{says, needs, Stays, stay-none, stay-none-slice, walkOf
 use denote.Exit.{yes}
 use denote.Triple.Clauses.{ensured, lasts}
 use Rattle.lines.specs.Line.{got}
-use Rattle.sheet.specs.Sheet.{readSheet}
-use Rattle.sheet.specs.Read.{headPart, sheetOf}
+use Rattle.rows.specs.Sheet.{readSheet}
+use Rattle.rows.specs.Parts.{headPart}
+use Rattle.sheet.specs.Read.{sheetOf}
 use Rattle.sheet.specs.declared.Reader.{Reader}
 use Rattle.sheet.specs.declared.Sheet.{Sheet}
 use Rattle.sheet.proofs.Reader as T

@@ -1,7 +1,7 @@
 use mathlib.Core.Path.{ap, sym, _∙_}
 use Rattle.lines.specs.Part.{Outcome}
 use Rattle.lines.proofs.ReadLaws.{told-refused, told-got}
-use Rattle.sheet.specs.Sheet.{Held}
+use Rattle.rows.specs.Sheet.{Held}
 use Rattle.sheet.specs.Read.{sheetOf}
 use Rattle.sheet.proofs.ScanLaws.{scan-1}
 use borrow.Author.Needs.{needs}

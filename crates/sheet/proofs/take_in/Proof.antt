@@ -5,9 +5,10 @@ use lib.ListN.{length, drop}
 use Rattle.lines.specs.Line.{got}
 use Rattle.lines.specs.Part.{Outcome}
 use Rattle.lines.proofs.ReadLaws.{told-refused, told-got}
-use Rattle.sheet.specs.Sheet.{Held, xOf, yOf, wordOf}
-use Rattle.sheet.specs.Read.{headPart, sheetOf}
-use Rattle.sheet.proofs.HeadLaws.{head-few}
+use Rattle.rows.specs.Sheet.{Held, xOf, yOf, wordOf}
+use Rattle.rows.specs.Parts.{headPart}
+use Rattle.rows.proofs.HeadLaws.{head-few}
+use Rattle.sheet.specs.Read.{sheetOf}
 use Rattle.sheet.proofs.ScanLaws.{scan-1}
 use Rattle.sheet.proofs.ReadingLaws.{taken, not-taken}
 use borrow.Author.Needs.{needs}

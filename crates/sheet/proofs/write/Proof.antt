@@ -9,8 +9,7 @@ use lib.ListN.{length}
 use Rattle.table.specs.Table.{Table, table, tableRules, Valid}
 use Rattle.table.proofs.TableLaws.{valid-even}
 use Rattle.verdict.proofs.RuleLaws.{passed, passed-on, stopped}
-use Rattle.sheet.specs.Sheet.{Held, sheetBytes}
-use Rattle.sheet.specs.Write.{asked}
+use Rattle.rows.specs.Sheet.{Held, sheetBytes, asked}
 use Rattle.sheet.proofs.WriteLaws.{sheet-put, kept, too-short, long-enough}
 use Rattle.sheet.proofs.write.Statement.{statement}
 use Rattle.sheet.proofs.write.Tie as tie

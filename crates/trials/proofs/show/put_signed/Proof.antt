@@ -9,7 +9,7 @@ use lib.Seq.{length-take-le}
 use mir.Facts.{toZ-ofZ}
 use borrow.Author.Needs.{needs}
 use Rattle.print.specs.Puts.{Puts}
-use Rattle.sheet.proofs.SizeLaws.{signed-most}
+use Rattle.rows.proofs.SizeLaws.{signed-most}
 use Rattle.trials.proofs.show.put_signed.Statement.{statement}
 use Rattle.trials.proofs.show.put_signed.Tie as tie
 

@@ -1,9 +1,9 @@
 // The columns of a table and a tree: how they are read, and the part of each that a call gets.
-use crate::BUFFER;
 use crate::BUILD;
 use crate::CHECK;
 use crate::VALUES;
-use crate::words;
+use cases::BUFFER;
+use cases::words;
 
 // The first n values of a column, or all of it.
 pub(crate) fn first8(s: &[u8], n: u64) -> &[u8] {
@@ -59,6 +59,85 @@ pub(crate) fn lend64(s: &mut [u64], n: u64) -> &mut [u64] {
     s
 }
 
+fn store8(to: &mut [u8], i: u64, n: u64) {
+    let k = i as usize;
+    if k < to.len() {
+        to[k] = (n % 256) as u8;
+    }
+}
+
+fn store16(to: &mut [u16], i: u64, n: u64) {
+    let k = i as usize;
+    if k < to.len() {
+        to[k] = (n % 65536) as u16;
+    }
+}
+
+fn store32(to: &mut [i32], i: u64, n: u64) {
+    let k = i as usize;
+    let z = words::signed_of(n);
+    if k < to.len() {
+        to[k] = z;
+    }
+}
+
+fn store64(to: &mut [u64], i: u64, n: u64) {
+    let k = i as usize;
+    if k < to.len() {
+        to[k] = n;
+    }
+}
+
+// After a column the value is its length.
+fn counted(v: words::Words, n: u64) -> words::Words {
+    words::Words {
+        at: v.at,
+        end: v.end,
+        value: n,
+        bad: v.bad,
+    }
+}
+
+pub(crate) fn read8(input: &mut [u8; BUFFER], w: words::Words, to: &mut [u8]) -> words::Words {
+    let mut v = words::next_within(input, w, to.len() as u64);
+    let n = v.value;
+    for i in 0..n {
+        v = words::next_within(input, v, 255);
+        store8(to, i, v.value);
+    }
+    counted(v, n)
+}
+
+fn read16(input: &mut [u8; BUFFER], w: words::Words, to: &mut [u16]) -> words::Words {
+    let mut v = words::next_within(input, w, to.len() as u64);
+    let n = v.value;
+    for i in 0..n {
+        v = words::next_within(input, v, 65535);
+        store16(to, i, v.value);
+    }
+    counted(v, n)
+}
+
+fn read32(input: &mut [u8; BUFFER], w: words::Words, to: &mut [i32]) -> words::Words {
+    let mut v = words::next_within(input, w, to.len() as u64);
+    let n = v.value;
+    for i in 0..n {
+        v = words::next_signed(input, v);
+        store32(to, i, v.value);
+    }
+    counted(v, n)
+}
+
+fn read64(input: &mut [u8; BUFFER], w: words::Words, to: &mut [u64]) -> words::Words {
+    let mut v = words::next_within(input, w, to.len() as u64);
+    let n = v.value;
+    for i in 0..n {
+        v = words::next(input, v);
+        store64(to, i, v.value);
+    }
+    counted(v, n)
+}
+
 // How long the columns of a table are.
 pub(crate) struct Table {
     pub w: words::Words,
@@ -74,9 +153,9 @@ pub(crate) fn read_table(
     y: &mut [i32; VALUES],
     kit: &mut [u64; VALUES],
 ) -> Table {
-    let a = words::read32(input, w, x);
-    let b = words::read32(input, a, y);
-    let c = words::read64(input, b, kit);
+    let a = read32(input, w, x);
+    let b = read32(input, a, y);
+    let c = read64(input, b, kit);
     Table {
         w: c,
         x: a.value,
@@ -100,9 +179,9 @@ fn read_runs(
     start: &mut [u16; VALUES],
     count: &mut [u8; VALUES],
 ) -> Runs {
-    let a = words::read8(input, w, level);
-    let b = words::read16(input, a, start);
-    let c = words::read8(input, b, count);
+    let a = read8(input, w, level);
+    let b = read16(input, a, start);
+    let c = read8(input, b, count);
     Runs {
         w: c,
         level: a.value,
@@ -128,10 +207,10 @@ fn read_sides(
     y_lo: &mut [i32; VALUES],
     y_hi: &mut [i32; VALUES],
 ) -> Sides {
-    let a = words::read32(input, w, x_lo);
-    let b = words::read32(input, a, x_hi);
-    let c = words::read32(input, b, y_lo);
-    let d = words::read32(input, c, y_hi);
+    let a = read32(input, w, x_lo);
+    let b = read32(input, a, x_hi);
+    let c = read32(input, b, y_lo);
+    let d = read32(input, c, y_hi);
     Sides {
         w: d,
         x_lo: a.value,
@@ -173,8 +252,8 @@ pub(crate) fn read_columns(
     let b = runs.w;
     let sides = read_sides(input, b, x_lo, x_hi, y_lo, y_hi);
     let c = sides.w;
-    let d = words::read64(input, c, kits);
-    let e = words::read16(input, d, entries);
+    let d = read64(input, c, kits);
+    let e = read16(input, d, entries);
     Columns {
         w: e,
         table,

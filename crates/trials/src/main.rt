@@ -1,7 +1,10 @@
 // Calls of the library, asked by words on standard input and answered by lines on standard output (docs/TRIALS.md).
+use cases::BUFFER;
+use cases::show;
+use cases::words;
+
+mod answers;
 mod columns;
-mod show;
-mod words;
 
 // The numbers of the calls.
 const SQUARED: u64 = 1;
@@ -22,9 +25,6 @@ const READ: u64 = 7;
 const VALUES: usize = 6200;
 
 const BYTES: usize = 300000;
-
-// How much is read and written at a time.
-const BUFFER: usize = 65536;
 
 // How far input and output have come.
 struct Done {
@@ -143,8 +143,8 @@ fn build_over(
         kits,
         entries,
     );
-    let k = show::put_built(out, to, b);
-    show::put_tree(
+    let k = answers::put_built(out, to, b);
+    answers::put_tree(
         out,
         k,
         level,
@@ -236,7 +236,7 @@ fn search_of(
         m.want,
         (m.allowance % 4294967296) as u32,
     );
-    show::put_found(out, to, f)
+    answers::put_found(out, to, f)
 }
 
 // Check, builder and search.
@@ -362,7 +362,7 @@ fn write_over(
     let r = sheet::write(x, y, kit, want, (budget % 4294967296) as u32, lent);
     let a = show::put_verdict(out, to, r.code, r.at);
     let b = show::put_next(out, a, r.bytes as u64);
-    show::put_column8(out, b, lent)
+    answers::put_column8(out, b, lent)
 }
 
 fn write_of(
@@ -403,7 +403,7 @@ fn write_case(
     let a = t.w;
     let want = words::next(input, a);
     let budget = words::next_within(input, want, 4294967295);
-    let n = words::read8(input, budget, bytes);
+    let n = columns::read8(input, budget, bytes);
     if n.bad {
         return Done { w: n, to };
     }
@@ -437,9 +437,9 @@ fn read_over(
     let b = show::put_next(out, a, r.places as u64);
     let c = show::put_next(out, b, r.want);
     let d = show::put_next(out, c, r.budget as u64);
-    let e = show::put_column32(out, d, x);
-    let f = show::put_column32(out, e, y);
-    show::put_column64(out, f, kit)
+    let e = answers::put_column32(out, d, x);
+    let f = answers::put_column32(out, e, y);
+    answers::put_column64(out, f, kit)
 }
 
 fn read_of(
@@ -472,7 +472,7 @@ fn read_case(
     kit: &mut [u64; VALUES],
     bytes: &mut [u8; BYTES],
 ) -> Done {
-    let n = words::read8(input, w, bytes);
+    let n = columns::read8(input, w, bytes);
     let t = columns::read_table(input, n, x, y, kit);
     let a = t.w;
     if a.bad {

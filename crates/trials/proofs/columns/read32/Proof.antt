@@ -4,8 +4,8 @@ use Prim.Native.Nat.{_≤_, _-_}
 use mathlib.Core.Path.{_≡_}
 use lib.ListN.{length}
 use borrow.Author.Needs.{needs}
-use Rattle.trials.proofs.words.read16.Statement.{statement}
-use Rattle.trials.proofs.words.read16.Tie as tie
+use Rattle.trials.proofs.columns.read32.Statement.{statement}
+use Rattle.trials.proofs.columns.read32.Tie as tie
 
 abbrev Inv-loop : tie.InvT-loop
 Inv-loop input₀ to₀ v₀ n i₀ input to v i = (i ≤ n) × (length to ≡ length to₀)
@@ -13,8 +13,8 @@ Inv-loop input₀ to₀ v₀ n i₀ input to v i = (i ≤ n) × (length to ≡ l
 abbrev μ-loop : tie.MeasureT-loop
 μ-loop input₀ to₀ v₀ n i₀ input to v i = n - i
 
-pub read16-spec : {M : Type 1} → statement M
-read16-spec =
+pub read32-spec : {M : Type 1} → statement M
+read32-spec =
     tie.close
     (tie.spec
     Inv-loop

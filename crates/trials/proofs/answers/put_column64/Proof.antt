@@ -2,8 +2,8 @@
 -- Assumes nothing.
 use Prim.Native.Nat.{_≤_, _-_}
 use borrow.Author.Needs.{needs}
-use Rattle.trials.proofs.show.put_column32.Statement.{statement}
-use Rattle.trials.proofs.show.put_column32.Tie as tie
+use Rattle.trials.proofs.answers.put_column64.Statement.{statement}
+use Rattle.trials.proofs.answers.put_column64.Tie as tie
 
 abbrev Inv-loop : tie.InvT-loop
 Inv-loop out₀ to s at₀ i₀ i-end out at i = i ≤ i-end
@@ -11,8 +11,8 @@ Inv-loop out₀ to s at₀ i₀ i-end out at i = i ≤ i-end
 abbrev μ-loop : tie.MeasureT-loop
 μ-loop out₀ to s at₀ i₀ i-end out at i = i-end - i
 
-pub put-column32-spec : {M : Type 1} → statement M
-put-column32-spec =
+pub put-column64-spec : {M : Type 1} → statement M
+put-column64-spec =
     tie.close
     (tie.spec
     Inv-loop
@@ -20,7 +20,6 @@ put-column32-spec =
     (λ c. search needs)
     (λ c κs. search needs)
     (λ c. search needs)
-    (λ c κs. search needs)
     (λ c. search needs)
     (λ c. search needs)
     (λ c κs. search needs)

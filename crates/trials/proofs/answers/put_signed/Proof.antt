@@ -10,8 +10,8 @@ use mir.Facts.{toZ-ofZ}
 use borrow.Author.Needs.{needs}
 use Rattle.print.specs.Puts.{Puts}
 use Rattle.rows.proofs.SizeLaws.{signed-most}
-use Rattle.trials.proofs.show.put_signed.Statement.{statement}
-use Rattle.trials.proofs.show.put_signed.Tie as tie
+use Rattle.trials.proofs.answers.put_signed.Statement.{statement}
+use Rattle.trials.proofs.answers.put_signed.Tie as tie
 
 within : {o t : List ℕ} {r : ℕ} {o′ : List ℕ} → Puts o 0 t r o′ → r ≤ length o′
 within p = omega (arith, p .end, simp length-append at (ap length (p .bytes)))

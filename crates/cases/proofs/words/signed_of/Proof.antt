@@ -7,8 +7,8 @@ use lib.Signed.{mag}
 use mir.Syntax.{w32}
 use mir.Facts.{toZ-pos}
 use borrow.Author.Needs.{needs}
-use Rattle.trials.proofs.words.signed_of.Statement.{statement}
-use Rattle.trials.proofs.words.signed_of.Tie as tie
+use Rattle.cases.proofs.words.signed_of.Statement.{statement}
+use Rattle.cases.proofs.words.signed_of.Tie as tie
 
 below : (m : ℕ) → mag (negsuc 0 -ℤ pos m) ≤ m
 below zero = omega arith

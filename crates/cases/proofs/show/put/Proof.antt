@@ -2,8 +2,8 @@
 -- Assumes nothing.
 use Prim.Native.Nat.{_≤_, _-_}
 use borrow.Author.Needs.{needs}
-use Rattle.trials.proofs.show.put.Statement.{statement}
-use Rattle.trials.proofs.show.put.Tie as tie
+use Rattle.cases.proofs.show.put.Statement.{statement}
+use Rattle.cases.proofs.show.put.Tie as tie
 
 abbrev Inv-loop : tie.InvT-loop
 Inv-loop out₀ to text at₀ i₀ i-end out at i = i ≤ i-end

@@ -4,8 +4,8 @@ use Prim.Native.Nat.{_≤_, _-_}
 use mathlib.Core.Path.{_≡_}
 use lib.ListN.{length}
 use borrow.Author.Needs.{needs}
-use Rattle.trials.proofs.words.read8.Statement.{statement}
-use Rattle.trials.proofs.words.read8.Tie as tie
+use Rattle.trials.proofs.columns.read8.Statement.{statement}
+use Rattle.trials.proofs.columns.read8.Tie as tie
 
 abbrev Inv-loop : tie.InvT-loop
 Inv-loop input₀ to₀ v₀ n i₀ input to v i = (i ≤ n) × (length to ≡ length to₀)

@@ -345,7 +345,7 @@ pub fn kind_at(kinds: [u8; 8], i: usize) -> usize
     0
 }
 
-// Internal: level i of eight is replaced; then number i, and side i.
+// Internal: level i of eight is replaced.
 pub fn put8(levels: &mut [u8; 8], i: usize, v: u8)
     requires { ⌜ i < 8 ⌝ }
     ensures { λ _. ⌜ now (levels .exit) ≡ set (now (levels .entry)) i v ⌝ }
@@ -353,6 +353,7 @@ pub fn put8(levels: &mut [u8; 8], i: usize, v: u8)
     levels[i] = v;
 }
 
+// Internal: number i of eight is replaced.
 pub fn put16(numbers: &mut [u16; 8], i: usize, v: u16)
     requires { ⌜ i < 8 ⌝ }
     ensures { λ _. ⌜ now (numbers .exit) ≡ set (now (numbers .entry)) i v ⌝ }
@@ -360,6 +361,7 @@ pub fn put16(numbers: &mut [u16; 8], i: usize, v: u16)
     numbers[i] = v;
 }
 
+// Internal: side i of eight is replaced.
 pub fn put32(ends: &mut [i32; 8], i: usize, v: i32)
     requires { ⌜ i < 8 ⌝ }
     ensures { λ _. ⌜ now (ends .exit) ≡ set (now (ends .entry)) i v ⌝ }

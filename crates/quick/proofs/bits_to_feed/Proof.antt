@@ -34,7 +34,7 @@ parse-bits-requires c κs = search needs
 returns-3 : tie.Need-returns-3
 returns-3 c =
     let h = c .before .before .before .before .if1 .left in (
-      h,
+      omega (arith, h),
       λ e.
           let w = number-told bits _ _ (c .parse-bits .ensures) .0 e in
           record { width = 16; counts = omega arith; within = omega (arith, h); feed = c .before .before .if2 .left; form = w .0; value = w .1 },

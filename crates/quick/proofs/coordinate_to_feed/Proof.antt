@@ -56,7 +56,7 @@ with-sign-requires : tie.Need-with-sign-requires
 with-sign-requires c κs = let w = number (c .before .before .before) in omega (arith, w .value, w .form .0)
 
 returns-3 : tie.Need-returns-3
-returns-3 c = let e = c .before .before .before .before in (inside e, λ _. signed-leads _ _ _ _ _ (first e .minus-at .ensures) (number e) (c .before .before .if2 .left) (c .with-sign .ensures))
+returns-3 c = let e = c .before .before .before .before in (inside e, λ _. signed-leads _ _ _ _ _ (first e .minus-at .ensures) (number e) (omega (arith, c .before .before .if2 .left)) (c .with-sign .ensures))
 
 pub coordinate-to-feed-spec : {M : Type 1} → statement M
 coordinate-to-feed-spec =

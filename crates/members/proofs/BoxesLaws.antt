@@ -1,12 +1,14 @@
 -- Laws of lists of boxes: all but one, all in range, and how far they are spread.
 -- Assumes nothing.
 use mathlib.Core.Path.{_≡_, refl, sym, ap, subst, _∙_}
+use mathlib.Core.Bool.{true, false}
 use mathlib.Core.List.{List, [], _∷_}
 use Prim.Native.Nat.{ℕ, zero, suc, _+_, _-_, _≤_, _<_, max}
 use native.Mathlib.Nat.{not-suc-le-zero, le-of-suc-le-suc, max-zero}
 use native.Mathlib.Numerals.{add-one}
 use native.Mathlib.Decide.{decLt}
 use native.Mathlib.Omega.{arith}
+use lib.Dec.{ltb}
 use lib.IntN.{pos}
 use lib.ListN.{length, getD, take, drop, set, drop-of-length-le}
 use lib.Seq.{length-take-le, getD-take, drop-cons}
@@ -105,6 +107,23 @@ farthest-more a b r e = rw e (omega arith)
 pub farthest-done : {l : List Box} (a : Box) (r : ℕ) → l ≡ [] → max r (farthest a l) ≡ r
 unfolding farthest
 farthest-done a r e = rw e (max-zero r)
+
+-- whether it is above q
+pub beyond-more : {l k : List Box} (a b : Box) (q : ℕ) → l ≡ b ∷ k → apart a b ≤ q → ltb q (farthest a k) ≡ ltb q (farthest a l)
+beyond-more {l} {k} a b q e h = go (decLt q (farthest a k))
+  where
+    is : max (max 0 (apart a b)) (farthest a k) ≡ max 0 (farthest a l)
+    is = farthest-more a b 0 e
+
+    go : Dec (q < farthest a k) → ltb q (farthest a k) ≡ ltb q (farthest a l)
+    go (yes f) = lt-ltb q (farthest a k) f ∙ sym (lt-ltb q (farthest a l) (omega (arith, is)))
+    go (no f) = le-ltb q (farthest a k) (omega arith) ∙ sym (le-ltb q (farthest a l) (omega (arith, is)))
+
+pub beyond-here : {l k : List Box} (a b : Box) (q : ℕ) → l ≡ b ∷ k → q < apart a b → ltb q (farthest a l) ≡ true
+beyond-here {l} a b q e h = lt-ltb q (farthest a l) (omega (arith, farthest-more a b 0 e))
+
+pub beyond-none : {l : List Box} (a : Box) (q : ℕ) → l ≡ [] → ltb q (farthest a l) ≡ false
+beyond-none {l} a q e = le-ltb q (farthest a l) (omega (arith, farthest-done a 0 e))
 
 pub spread-more : {l k : List Box} (b : Box) (r : ℕ) → l ≡ b ∷ k → max (max r (farthest b k)) (spread k) ≡ max r (spread l)
 unfolding spread

@@ -1,4 +1,4 @@
 -- Laws about members.
 pub mod BoxesLaws
-pub mod LeadLaws
+pub mod LevelLaws
 pub mod PlaceLaws

@@ -16,6 +16,10 @@ bestAt known squared places = record { known = known; squared = squared; places 
 abbrev pub limitOf : Bool → ℕ → ℕ
 limitOf known squared = cond known squared 18446744073709551615
 
+-- a squared distance for which the best does not drop a candidate
+abbrev pub near : Bool → ℕ → ℕ → Bool
+near known squared d = cond known (cond (ltb squared d) false true) true
+
 -- a group of a squared diameter becomes the best if it is better
 unfoldable pub improved : List ℕ → ℕ → Best → Best
 improved places squared b =

@@ -1,20 +1,20 @@
 // The members of a candidate, in columns of eight: which is topmost, how far they lie apart, and the group that they are.
 ghost use mathlib.Core.Path.{_≡_};
 ghost use mathlib.Core.Bool.{true, false, cond};
-ghost use mathlib.Core.List.{List, map};
+ghost use mathlib.Core.List.{List};
 ghost use Prim.Native.Nat.{ℕ, _≤_, _<_, max};
 ghost use lib.IntN.{ℤ};
 ghost use lib.ListN.{length, take, drop, getD, set};
 ghost use Rattle.plane.specs.Plane.{Ranged};
 ghost use Rattle.kit.specs.Kit.{held, padded};
 ghost use Rattle.table.specs.Table.{table};
-ghost use Rattle.tree.specs.Tree.{Shape, Thing, thing, level, kitOf, boxAt, boxOf};
+ghost use Rattle.tree.specs.Tree.{thing, kitOf, boxAt, boxOf};
 ghost use Rattle.tree.specs.Lent.{sides};
 ghost use Rattle.walks.specs.Order.{before};
 ghost use Rattle.closest.specs.Group.{farthest, spread};
-ghost use Rattle.closest.specs.Candidate.{topmost};
 ghost use Rattle.members.specs.Boxes.{without, skip, AllRanged, boxesAt, UpTo};
-ghost use Rattle.members.specs.Best.{bestAt, limitOf, improved, Stepped};
+ghost use Rattle.members.specs.Levels.{nextTop, nextHigh};
+ghost use Rattle.members.specs.Best.{bestAt, limitOf, near, improved, Stepped};
 
 // The best group known.
 pub struct Best {
@@ -30,24 +30,20 @@ pub fn larger(a: u64, b: u64) -> u64
     if a < b { b } else { a }
 }
 
-// Internal: the leftmost of the highest of m levels.
-pub fn find_topmost(m: usize, levels: &[u8; 8]) -> usize
-    requires { ⌜ m ≤ 8 ⌝ }
-    ensures { λ r. ⌜ (r < 8) × ((s : Shape) (c : List Thing) → take m (now (levels .entry)) ≡ map (level s) c → r ≡ topmost s c) ⌝ }
+// Internal: the leftmost of the highest of m members, once `top`, which was, is replaced.
+pub fn next_top(m: usize, top: usize) -> usize
+    requires { ⌜ (m ≤ 8) × (top < m) ⌝ }
+    ensures { λ r. ⌜ r ≡ nextTop m top ⌝ }
 {
-    let mut i: usize = 0;
-    let mut most: u8 = 0;
-    let mut j: usize = 0;
-    while j < m {
-        let a = levels[j];
-        let here = j;
-        j += 1;
-        if most < a {
-            i = here;
-            most = a;
-        }
-    }
-    i
+    if top + 1 < m { top + 1 } else { 0 }
+}
+
+// Internal: its level.
+pub fn next_high(m: usize, top: usize, high: u8) -> u8
+    requires { ⌜ (m ≤ 8) × ((top < m) × (0 < high)) ⌝ }
+    ensures { λ r. ⌜ r ≡ nextHigh m top high ⌝ }
+{
+    if top + 1 < m { high } else { high - 1 }
 }
 
 // Box i of four columns of sides.
@@ -114,6 +110,36 @@ pub fn row_of(
         }
     }
     most
+}
+
+// Internal: is b no farther than the best known from each of m boxes but box i? While no group is known, nothing is too far.
+pub fn is_near(
+    m: usize,
+    west: &[i32; 8],
+    east: &[i32; 8],
+    south: &[i32; 8],
+    north: &[i32; 8],
+    i: usize,
+    b: plane::Box,
+    known: bool,
+    squared: u64,
+) -> bool
+    requires { ⌜ (m ≤ 8) × (i < m) ⌝ }
+    requires { ⌜ AllRanged (take m (boxesAt (sides (now west) (now east) (now south) (now north)))) × Ranged b ⌝ }
+    ensures { λ r. ⌜ r ≡ near known squared (farthest b (without i (take m (boxesAt (sides (now (west .entry)) (now (east .entry)) (now (south .entry)) (now (north .entry))))))) ⌝ }
+{
+    if !known {
+        return true;
+    }
+    let mut k: usize = 0;
+    while k + 1 < m {
+        let c = box_in(west, east, south, north, skipping(i, k));
+        if squared < plane::apart_of(b, c) {
+            return false;
+        }
+        k += 1;
+    }
+    true
 }
 
 // The larger of `least` and the largest squared distance of b and any of m boxes but box i, without the first `from` of these.
@@ -343,14 +369,6 @@ pub fn kind_at(kinds: [u8; 8], i: usize) -> usize
         return tree::wide8(kinds[i]);
     }
     0
-}
-
-// Internal: level i of eight is replaced.
-pub fn put8(levels: &mut [u8; 8], i: usize, v: u8)
-    requires { ⌜ i < 8 ⌝ }
-    ensures { λ _. ⌜ now (levels .exit) ≡ set (now (levels .entry)) i v ⌝ }
-{
-    levels[i] = v;
 }
 
 // Internal: number i of eight is replaced.

@@ -3,8 +3,8 @@ pub mod AheadLaws
 pub mod StepLaws
 pub mod TurnLaws
 pub mod EntryLaws
+pub mod Opens
 pub mod RunLaws
-pub mod HeightLaws
 pub mod MemberLaws
 pub mod ColumnLaws
 pub mod OpenLaws

@@ -1,6 +1,6 @@
 -- What the loop over the run of an opened candidate keeps, and how it ends.
 -- Assumes nothing.
-use mathlib.Core.Path.{_≡_, sym, ap, ap₂, subst, _∙_}
+use mathlib.Core.Path.{_≡_, refl, sym, ap, ap₂, subst, _∙_}
 use mathlib.Core.Bool.{Bool, true, false}
 use mathlib.Core.List.{List, map}
 use mathlib.Core.Option.{none, some}
@@ -11,8 +11,8 @@ use lib.ListN.{length, take, drop, getD, set, length-map}
 use Rattle.kit.specs.Kit.{padded}
 use Rattle.table.specs.Table.{Table}
 use Rattle.tree.specs.Tree.{Tree, Thing, node, boxOf}
-use Rattle.members.specs.Boxes.{without, UpTo}
-use Rattle.members.specs.Best.{limitOf, improved}
+use Rattle.members.specs.Boxes.{without}
+use Rattle.members.specs.Best.{improved}
 use Rattle.walks.specs.Allowance.{Stand, stand}
 use Rattle.walks.specs.Order.{before}
 use Rattle.closest.specs.Group.{farthest, spread, diameter}
@@ -20,16 +20,17 @@ use Rattle.closest.specs.Candidate.{number, member, topmost, groupOf, entry, en
 use Rattle.closest.specs.Walk.{holds, boxes}
 use Rattle.closest.proofs.CandidateLaws.{group-is}
 use Rattle.walk.specs.Members.{Member, Placed, boxesOf, thingOf, thingsOf}
-use Rattle.walk.specs.Opening.{Last, Led}
+use Rattle.walk.specs.Opening.{Led}
 use Rattle.walk.specs.State.{Near, leads}
 use Rattle.members.specs.declared.Best.{Best}
 use Rattle.walk.specs.declared.Opening.{Opening}
+use Rattle.walk.proofs.Opens.{Last}
 use Rattle.walk.proofs.MemberLaws.{whole-spread}
 use Rattle.walk.proofs.OpenLaws.{placed}
 use Rattle.walk.proofs.RunLaws.{in-run}
 use Rattle.walk.proofs.StepLaws.{again-not, ended, turn-spent}
 use Rattle.walk.proofs.TurnLaws.{at-spent, at-far, at-whole, at-more}
-use Rattle.walk.proofs.NextLaws.{Ready, inside, lower, next, next-long, next-fair, next-things, next-spread, next-rises, comes, dropped-known, dropped-far}
+use Rattle.walk.proofs.NextLaws.{Ready, inside, lower, next, next-long, next-fair, next-things, next-spread, next-rises, comes, dropped-far}
 
 -- the best is the old one, or the group that it was offered
 improved-is : (P : Best → Type 0) (g : List ℕ) (d : ℕ) (b : Best) → P (record { known = true; squared = d; places = g }) → P b → P (improved g d b)
@@ -53,6 +54,11 @@ pub record Going (t : Table) (tree : Tree) (kinds : List ℕ) (allowance m : ℕ
       ≡ leads t tree kinds allowance (thingsOf (take m cand)) (o .top) (entriesOf (tree .shape) (node (o .node))) from
   pub near : Near best (spread (boxesOf (take m cand)))
   pub eight : length (best .places) ≡ 8
+
+-- before the first entry
+pub at-first : {t : Table} {tree : Tree} {kinds : List ℕ} {allowance m : ℕ} {cand : List Member} {o : Opening} {steps : ℕ} {best : Best} →
+    Near best (spread (boxesOf (take m cand))) → length (best .places) ≡ 8 → Going t tree kinds allowance m cand o (stand steps false best) steps best 0
+at-first n l = record { some = omega arith; led = refl; near = n; eight = l }
 
 module _ {t : Table} {tree : Tree} {kinds : List ℕ} {m : ℕ} {cand : List Member} {o : Opening} (r : Ready t tree kinds m cand o) (allowance : ℕ) (from : Stand Best) where
   abbrev c : List Thing
@@ -87,27 +93,28 @@ module _ {t : Table} {tree : Tree} {kinds : List ℕ} {m : ℕ} {cand : List Mem
             (g .near)
             (g .eight))
 
-        module _ {now : ℕ} (taken : (steps < allowance) × (now ≡ steps + 1)) {limit row : ℕ} (l : limit ≡ limitOf (best .known) (best .squared)) (u : UpTo limit (farthest (boxOf t (tree .sides) y) (without (o .top) (boxesOf (take m cand)))) row) where
+        module _ {now : ℕ} (taken : (steps < allowance) × (now ≡ steps + 1)) where
           abbrev room : steps < allowance
           room = taken .0
 
           counted : {z : Best} → Goes (steps + 1) z (k + 1) → Goes now z (k + 1)
           counted {z} q = subst (λ (n : ℕ). Goes n z (k + 1)) (sym (taken .1)) q
 
-          pub drops : row < 18446744073709551616 → limit < row → Goes now best (k + 1)
+          -- how far the entry is from the others
+          abbrev far : ℕ
+          far = farthest (boxOf t (tree .sides) y) (without (o .top) (boxesOf (take m cand)))
+
+          pub drops : best .known ≡ true → best .squared < far → Goes now best (k + 1)
           drops f h = counted (record {
             some = omega arith;
-            led = sym (at-far t tree kinds allowance c (o .top) (o .node) k (in-run (r .passes) (r .opens) k b) held (inside r) (lower r k b) steps best room
-                (dropped-known r k b best (g .near) l u f h)
-                (omega (arith, next-spread r k b, dropped-far r k b best (g .near) l u f h)))
-                ∙ g .led;
+            led = sym (at-far t tree kinds allowance c (o .top) (o .node) k (in-run (r .passes) (r .opens) k b) held (inside r) (lower r k b) steps best room f (omega (arith, next-spread r k b, dropped-far r k b best (g .near) h))) ∙ g .led;
             near = g .near;
             eight = g .eight;
           })
 
-          module _ (h : row ≤ limit) where
+          module _ (h : Near best far) where
             near-next : Near best (spread (boxesIn (boxes t tree) kinds (set c (o .top) y)))
-            near-next e = omega (arith, next-spread r k b, comes r k b best (g .near) l u h e)
+            near-next e = omega (arith, next-spread r k b, comes r k b best (g .near) h e)
 
             -- the candidate is a group
             pub learns : {places : List ℕ} {d : ℕ} {new : Best} → Last tree c (o .top) → places ≡ map number (set c (o .top) y) → length (padded places) ≡ 8 → d ≡ spread (boxesOf (take m (next r k b))) →

@@ -16,16 +16,20 @@ use Rattle.plane.proofs.BoxLaws.{within-self}
 use Rattle.table.specs.Table.{Table}
 use Rattle.tree.specs.Tree.{Tree, Thing, place, node, thing, level, levelOf, startOf, countOf, boxOf}
 use Rattle.closest.specs.Group.{farthest, spread}
-use Rattle.closest.specs.Candidate.{number, member, topmost, groupOf, boxesIn}
+use Rattle.closest.specs.Candidate.{number, member, topmost, groupOf, entriesOf, boxesIn}
 use Rattle.closest.specs.Walk.{boxes}
+use Rattle.walks.specs.Allowance.{Stand}
 use Rattle.tree.proofs.TreeLaws.{linked}
 use Rattle.closest.proofs.SpreadLaws.{Mates, spread-grows}
 use Rattle.closest.proofs.CandidateLaws.{inside, open-is}
 use Rattle.closest.proofs.EntryLaws.{is-place}
 use Rattle.members.specs.Boxes.{without, AllRanged}
 use Rattle.walk.specs.Members.{Member, memberOf, membersOf, Placed, nobody, boxesOf, thingOf, thingsOf, Real, Fair, Passes}
-use Rattle.walk.specs.Opening.{Opens}
+use Rattle.walk.specs.Opening.{Opened, Led}
+use Rattle.walk.specs.State.{Near, leads}
+use Rattle.members.specs.declared.Best.{Best}
 use Rattle.walk.specs.declared.Opening.{Opening}
+use Rattle.walk.proofs.Opens.{Opens}
 use Rattle.walk.proofs.EntryLaws.{meets, ranged, node-high}
 use Rattle.members.proofs.BoxesLaws.{spread-set}
 use Rattle.walk.proofs.MemberLaws.{boxes-are, StandFor, stands-at, getD-map, set-map, replaced-so}
@@ -48,6 +52,24 @@ mates-set (c ∷ l) (suc i) b d w = (within-self c, mates-set l i b d w)
 high-node : (tree : Tree) (x : Thing) → 0 < level (tree .shape) x → x ≡ node (number x)
 high-node tree (place q) h = absurd (omega arith)
 high-node tree (node n) h = refl
+
+-- only the first m members count
+module _ {t : Table} {tree : Tree} {kinds : List ℕ} {m : ℕ} {c d : List Member} {top : ℕ} (e : take m c ≡ take m d) where
+  pub opened-same : {best : Best} → Opened t tree kinds m c top best → Opened t tree kinds m d top best
+  opened-same {best} i = record {
+    fair = subst (Fair t tree kinds) e (i .fair);
+    is = i .is ∙ ap (λ (l : List Member). topmost (tree .shape) (thingsOf l)) e;
+    whole = ap (λ (l : List Member). groupOf (tree .shape) (thingsOf l)) (sym e) ∙ i .whole;
+    near = subst (λ (l : List Member). Near best (spread (boxesOf l))) e (i .near);
+    eight = i .eight;
+  }
+
+  pub led-same : {allowance : ℕ} {from to : Stand Best} → Led t tree kinds allowance m c top from to → Led t tree kinds allowance m d top from to
+  led-same {allowance} {from} {to} i = record {
+    led = i .led ∙ ap (λ (l : List Member). leads t tree kinds allowance (thingsOf l) top (entriesOf (tree .shape) (member (thingsOf l) top)) from) e;
+    near = subst (λ (l : List Member). Near (to .known) (spread (boxesOf l))) e (i .near);
+    eight = i .eight;
+  }
 
 module _ {t : Table} {tree : Tree} (p : Passes t tree) where
   -- what stands for a thing that there is, stands for it only

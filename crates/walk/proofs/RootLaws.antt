@@ -4,20 +4,21 @@ use mathlib.Core.Path.{_≡_, refl, sym, ap, subst, _∙_}
 use mathlib.Core.List.{List, _∷_, map}
 use mathlib.Core.Option.{none}
 use Prim.Native.Nat.{ℕ, zero, suc, _≤_, _<_}
-use native.Mathlib.Decide.{decLt}
 use native.Mathlib.Omega.{arith}
+use lib.IntN.{pos}
 use lib.ListN.{length, take, getD, replicate, length-replicate, getD-replicate}
+use lib.Seq.{ext-getD, getD-take, length-take-le}
 use Rattle.table.specs.Table.{Table}
-use Rattle.order.specs.Tab.{tab}
-use Rattle.tree.specs.Tree.{Tree, place, node, level}
+use Rattle.tree.specs.Tree.{Tree, Sides, place, node, level}
 use Rattle.tree.specs.Lent.{sides}
 use Rattle.closest.specs.Candidate.{member, topmost, groupOf}
 use Rattle.closest.specs.Walk.{roots}
-use Rattle.closest.proofs.TopLaws.{topmost-is}
 use Rattle.walk.specs.Members.{Member, memberOf, membersOf, nobody, membersAt, thingOf, thingsOf, Real, Fair, Passes}
 use Rattle.walk.proofs.EntryLaws.{node-high}
-use Rattle.members.proofs.LeadLaws.{topmost-below}
+use Rattle.members.specs.Levels.{levelsAt}
+use Rattle.members.proofs.LevelLaws.{from, levels-same, top-at}
 use Rattle.walk.proofs.TurnLaws.{no-group}
+use Rattle.walk.proofs.ColumnLaws.{members-long, member-at}
 use Rattle.walk.proofs.OpenLaws.{thing-of}
 
 take-replicate : {A : Type 0} (m n : ℕ) (a : A) → m ≤ n → take m (replicate n a) ≡ replicate m a
@@ -56,22 +57,40 @@ module _ {t : Table} {tree : Tree} (p : Passes t tree) (some : 0 < tree .shape .
   member-roots : (i : ℕ) → i < m → member (replicate m (node 0)) i ≡ node 0
   member-roots i h = getD-replicate m i (node 0) (place 0) h
 
-  pub top-roots : 0 < m → topmost (tree .shape) (replicate m (node 0)) ≡ 0
-  top-roots h = go (decLt 0 (topmost (tree .shape) (replicate m (node 0))))
-    where
-      level-at : (i : ℕ) → i < m → level (tree .shape) (member (replicate m (node 0)) i) ≡ level (tree .shape) (node 0)
-      level-at i l = ap (level (tree .shape)) (member-roots i l)
+  levels-roots : take m (levelsAt m 0 (level (tree .shape) (node 0))) ≡ map (level (tree .shape)) (replicate m (node 0))
+  levels-roots = levels-same m (level (tree .shape) (node 0)) few ∙ sym (map-replicate (level (tree .shape)) m (node 0))
 
-      go : Dec (0 < topmost (tree .shape) (replicate m (node 0))) → topmost (tree .shape) (replicate m (node 0)) ≡ 0
-      go (yes l) =
-          let below = topmost-below (tree .shape) (replicate m (node 0)) (omega (arith, h, length-replicate m (node 0))) in
-          absurd (omega (arith, topmost-is (tree .shape) (replicate m (node 0)) .leftmost 0 l, level-at 0 h, level-at (topmost (tree .shape) (replicate m (node 0))) (omega (arith, below, length-replicate m (node 0)))))
-      go (no l) = omega (arith, l)
+  pub top-roots : 0 < m → topmost (tree .shape) (replicate m (node 0)) ≡ 0
+  top-roots h = top-at m 0 (level (tree .shape) (node 0)) few (tree .shape) (replicate m (node 0)) levels-roots h (node-high p 0 some)
 
   pub whole-roots : 0 < m → groupOf (tree .shape) (replicate m (node 0)) ≡ none
   whole-roots h = no-group (tree .shape) (replicate m (node 0)) (λ e. absurd (omega (arith, e, ap (λ (i : ℕ). level (tree .shape) (member (replicate m (node 0)) i)) (top-roots h), ap (level (tree .shape)) (member-roots 0 h), node-high p 0 some)))
 
 -- the root in each column
-pub columns-roots : (a : Member) → membersAt (replicate 8 (a .level)) (replicate 8 (a .number)) (sides (replicate 8 (a .at .x .lo)) (replicate 8 (a .at .x .hi)) (replicate 8 (a .at .y .lo)) (replicate 8 (a .at .y .hi))) ≡ replicate 8 a
-unfolding tab
-columns-roots a = refl
+module _ (m : ℕ) (a : Member) (few : m ≤ 8) where
+  abbrev ends : Sides
+  ends = sides (replicate 8 (a .at .x .lo)) (replicate 8 (a .at .x .hi)) (replicate 8 (a .at .y .lo)) (replicate 8 (a .at .y .hi))
+
+  abbrev columns : List Member
+  columns = membersAt (levelsAt m 0 (a .level)) (replicate 8 (a .number)) ends
+
+  at : (i : ℕ) → i < m → getD columns i nobody ≡ a
+  at i h =
+      let l : i < 8 = omega arith in
+      member-at (levelsAt m 0 (a .level)) (replicate 8 (a .number)) ends i l
+      ∙ (rw (
+        from m 0 (a .level) few i h (omega arith),
+        getD-replicate 8 i (a .number) 0 l,
+        getD-replicate 8 i (a .at .x .lo) (pos 0) l,
+        getD-replicate 8 i (a .at .x .hi) (pos 0) l,
+        getD-replicate 8 i (a .at .y .lo) (pos 0) l,
+        getD-replicate 8 i (a .at .y .hi) (pos 0) l,
+      ))
+
+  pub columns-roots : take m columns ≡ take m (replicate 8 a)
+  columns-roots =
+      let size : length (take m columns) ≡ m = length-take-le m columns (omega (arith, members-long (levelsAt m 0 (a .level)) (replicate 8 (a .number)) ends)) in
+      ext-getD nobody (take m columns) (take m (replicate 8 a)) (size ∙ sym (length-take-le m (replicate 8 a) (omega (arith, length-replicate 8 a))))
+      (λ i l.
+      let h : i < m = omega (arith, l, size) in
+      getD-take m columns i nobody h ∙ at i h ∙ sym (getD-take m (replicate 8 a) i nobody h ∙ getD-replicate 8 i a nobody (omega arith)))

@@ -1,18 +1,18 @@
 -- The run of an opened candidate: what its entries are and where they are read.
 -- Assumes nothing.
-use mathlib.Core.Path.{_≡_, sym, ap₂, subst, _∙_}
-use mathlib.Core.Bool.{Bool}
+use mathlib.Core.Path.{_≡_, sym, ap, ap₂, subst, _∙_}
+use mathlib.Core.Bool.{Bool, true}
 use mathlib.Core.List.{List}
 use Prim.Native.Nat.{ℕ, _+_, _<_}
 use native.Mathlib.Omega.{arith}
 use lib.ListN.{length, take, getD}
 use lib.Seq.{getD-take}
 use Rattle.table.specs.Table.{Table}
-use Rattle.tree.specs.Tree.{Tree, thing, countOf}
+use Rattle.tree.specs.Tree.{Tree, place, thing, countOf}
 use Rattle.closest.specs.Candidate.{entry}
 use Rattle.walk.specs.Members.{Member, Real, Few, Passes}
-use Rattle.walk.specs.Opening.{Opens}
 use Rattle.walk.specs.declared.Opening.{Opening}
+use Rattle.walk.proofs.Opens.{Opens}
 use Rattle.walk.proofs.EntryLaws.{Reads, reads-of, entry-listed, entry-few, entry-real}
 
 -- a wanted kind is one of 64
@@ -31,6 +31,10 @@ module _ {t : Table} {tree : Tree} (p : Passes t tree) {kinds : List ℕ} {m : �
 
   pub is-entry : thing (o .leaf) (getD (tree .shape .entries) (o .first + k) 0) ≡ entry (tree .shape) (o .node) k
   is-entry = ap₂ (λ (u : Bool) (f : ℕ). thing u (getD (tree .shape .entries) (f + k) 0)) (opens .leaf) (opens .first)
+
+  -- the entries of a leaf are places
+  pub is-place : o .leaf ≡ true → place (getD (tree .shape .entries) (o .first + k) 0) ≡ entry (tree .shape) (o .node) k
+  is-place u = ap (λ (v : Bool). thing v (getD (tree .shape .entries) (o .first + k) 0)) (sym u) ∙ is-entry
 
   pub real : Real t tree (entry (tree .shape) (o .node) k)
   real = entry-real p (o .node) k (opens .there) in-run

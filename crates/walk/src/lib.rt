@@ -1,16 +1,17 @@
 // The walk: it calls itself on the candidate with one member replaced.
 ghost use mathlib.Core.Path.{_≡_};
 ghost use mathlib.Core.Bool.{true, false};
-ghost use Prim.Native.Nat.{_<_};
+ghost use Prim.Native.Nat.{_+_, _<_};
 ghost use lib.Dec.{eqb};
 ghost use lib.ListN.{length, take, getD, set};
 ghost use Rattle.table.specs.Table.{table};
 ghost use Rattle.tree.specs.Lent.{shape, sides, tree};
 ghost use Rattle.walks.specs.Allowance.{stand};
 ghost use Rattle.closest.specs.Walk.{begins, standsAt};
+ghost use Rattle.members.specs.Levels.{levelsAt};
 ghost use Rattle.members.specs.Best.{bestAt};
-ghost use Rattle.walk.specs.Members.{membersAt, thingsOf, Few, Passes};
-ghost use Rattle.walk.specs.Opening.{Opened, Opens, Last, Led};
+ghost use Rattle.walk.specs.Members.{membersAt, Few, Passes};
+ghost use Rattle.walk.specs.Opening.{Opened, Led};
 ghost use Rattle.walk.specs.State.{stateOf};
 
 // Where the walk stands.
@@ -53,7 +54,7 @@ fn open_at(
     }
 }
 
-// Takes the groups that come of an opened candidate, whose other members are places; says whether the allowance was spent.
+// Opens a candidate at its last member, a leaf, where the others are places, and takes the groups that come of it; says whether the allowance was spent.
 fn take_groups(
     level: &[u8],
     start: &[u16],
@@ -69,11 +70,10 @@ fn take_groups(
     kits: &[u64],
     nodes: usize,
     listed: usize,
-    kinds: &[u8; 8],
+    kinds: [u8; 8],
     m: usize,
     allowance: u32,
-    o: Opening,
-    levels: &[u8; 8],
+    top: usize,
     numbers: &[u16; 8],
     west: &[i32; 8],
     east: &[i32; 8],
@@ -85,31 +85,31 @@ fn take_groups(
     places: &mut [u16; 8],
 ) -> bool
     requires { ⌜ Passes (table (now x) (now y) (now kit)) (tree (shape nodes listed (now level) (now start) (now count) (now entries)) (sides (now «x_lo») (now «x_hi») (now «y_lo») (now «y_hi»)) (now kits)) ⌝ }
-    requires { ⌜ Few m (now kinds) ⌝ }
-    requires { ⌜ Opened (table (now x) (now y) (now kit)) (tree (shape nodes listed (now level) (now start) (now count) (now entries)) (sides (now «x_lo») (now «x_hi») (now «y_lo») (now «y_hi»)) (now kits)) (take m (now kinds)) m (membersAt (now levels) (now numbers) (sides (now west) (now east) (now south) (now north))) (o .top) (bestAt (now known) (now squared) (now places)) ⌝ }
-    requires { ⌜ Opens (tree (shape nodes listed (now level) (now start) (now count) (now entries)) (sides (now «x_lo») (now «x_hi») (now «y_lo») (now «y_hi»)) (now kits)) (take m (now kinds)) m (membersAt (now levels) (now numbers) (sides (now west) (now east) (now south) (now north))) o × Last (tree (shape nodes listed (now level) (now start) (now count) (now entries)) (sides (now «x_lo») (now «x_hi») (now «y_lo») (now «y_hi»)) (now kits)) (thingsOf (take m (membersAt (now levels) (now numbers) (sides (now west) (now east) (now south) (now north))))) (o .top) ⌝ }
+    requires { ⌜ Few m kinds × (top + 1 ≡ m) ⌝ }
+    requires { ⌜ Opened (table (now x) (now y) (now kit)) (tree (shape nodes listed (now level) (now start) (now count) (now entries)) (sides (now «x_lo») (now «x_hi») (now «y_lo») (now «y_hi»)) (now kits)) (take m kinds) m (membersAt (levelsAt m top 1) (now numbers) (sides (now west) (now east) (now south) (now north))) top (bestAt (now known) (now squared) (now places)) ⌝ }
     requires { ⌜ length (now numbers) ≡ 8 ⌝ }
-    ensures { λ r. ⌜ Led (table (now (x .entry)) (now (y .entry)) (now (kit .entry))) (tree (shape nodes listed (now (level .entry)) (now (start .entry)) (now (count .entry)) (now (entries .entry))) (sides (now («x_lo» .entry)) (now («x_hi» .entry)) (now («y_lo» .entry)) (now («y_hi» .entry))) (now (kits .entry))) (take m (now (kinds .entry))) allowance m (membersAt (now (levels .entry)) (now (numbers .entry)) (sides (now (west .entry)) (now (east .entry)) (now (south .entry)) (now (north .entry)))) (o .top) (stand (now (steps .entry)) false (bestAt (now (known .entry)) (now (squared .entry)) (now (places .entry)))) (stand (now (steps .exit)) r (bestAt (now (known .exit)) (now (squared .exit)) (now (places .exit)))) ⌝ }
+    ensures { λ r. ⌜ Led (table (now (x .entry)) (now (y .entry)) (now (kit .entry))) (tree (shape nodes listed (now (level .entry)) (now (start .entry)) (now (count .entry)) (now (entries .entry))) (sides (now («x_lo» .entry)) (now («x_hi» .entry)) (now («y_lo» .entry)) (now («y_hi» .entry))) (now (kits .entry))) (take m kinds) allowance m (membersAt (levelsAt m top 1) (now (numbers .entry)) (sides (now (west .entry)) (now (east .entry)) (now (south .entry)) (now (north .entry)))) top (stand (now (steps .entry)) false (bestAt (now (known .entry)) (now (squared .entry)) (now (places .entry)))) (stand (now (steps .exit)) r (bestAt (now (known .exit)) (now (squared .exit)) (now (places .exit)))) ⌝ }
 {
+    let o = open_at(start, count, kinds, top, 1, numbers[top]);
     let mut rest: u64 = 18446744073709551615;
     let mut k: usize = 0;
     while k < o.many {
-        let here = o.first + k;
+        let p = entries[o.first + k];
+        let e = tree::wide16(p);
         k += 1;
-        if members::holds_at(o.leaf, here, o.kind, entries, kit, kits) {
+        if kit::holds(kit[e], o.kind) {
             if !members::take_step(allowance, steps) {
                 return true;
             }
-            let p = entries[here];
-            let b = members::box_of(o.leaf, tree::wide16(p), x, y, x_lo, x_hi, y_lo, y_hi);
+            let b = tree::box_at(x, x, y, y, e);
             let limit = members::limit_of(*known, *squared);
-            let row = members::row_of(m, west, east, south, north, o.top, b, limit);
+            let row = members::row_of(m, west, east, south, north, top, b, limit);
             if row <= limit {
-                rest = members::rest_of(m, west, east, south, north, o.top, rest);
+                rest = members::rest_of(m, west, east, south, north, top, rest);
                 members::offer(
                     m,
                     numbers,
-                    o.top,
+                    top,
                     p,
                     members::larger(rest, row),
                     known,
@@ -142,7 +142,7 @@ fn walk(
     m: usize,
     allowance: u32,
     top: usize,
-    levels: [u8; 8],
+    high: u8,
     numbers: [u16; 8],
     west: [i32; 8],
     east: [i32; 8],
@@ -162,8 +162,8 @@ fn walk(
     requires { ⌜ at < 8 ⌝ }
     requires { ⌜ Passes (table (now x) (now y) (now kit)) (tree (shape nodes listed (now level) (now start) (now count) (now entries)) (sides (now «x_lo») (now «x_hi») (now «y_lo») (now «y_hi»)) (now kits)) ⌝ }
     requires { ⌜ Few m kinds ⌝ }
-    requires { ⌜ Opened (table (now x) (now y) (now kit)) (tree (shape nodes listed (now level) (now start) (now count) (now entries)) (sides (now «x_lo») (now «x_hi») (now «y_lo») (now «y_hi»)) (now kits)) (take m kinds) m (membersAt levels (set numbers at number) (sides (set west at w) (set east at e) (set south at s) (set north at n))) top (bestAt (now known) (now squared) (now places)) ⌝ }
-    ensures { λ r. ⌜ Led (table (now (x .entry)) (now (y .entry)) (now (kit .entry))) (tree (shape nodes listed (now (level .entry)) (now (start .entry)) (now (count .entry)) (now (entries .entry))) (sides (now («x_lo» .entry)) (now («x_hi» .entry)) (now («y_lo» .entry)) (now («y_hi» .entry))) (now (kits .entry))) (take m kinds) allowance m (membersAt levels (set numbers at number) (sides (set west at w) (set east at e) (set south at s) (set north at n))) top (stand (now (steps .entry)) false (bestAt (now (known .entry)) (now (squared .entry)) (now (places .entry)))) (stand (now (steps .exit)) r (bestAt (now (known .exit)) (now (squared .exit)) (now (places .exit)))) ⌝ }
+    requires { ⌜ Opened (table (now x) (now y) (now kit)) (tree (shape nodes listed (now level) (now start) (now count) (now entries)) (sides (now «x_lo») (now «x_hi») (now «y_lo») (now «y_hi»)) (now kits)) (take m kinds) m (membersAt (levelsAt m top high) (set numbers at number) (sides (set west at w) (set east at e) (set south at s) (set north at n))) top (bestAt (now known) (now squared) (now places)) ⌝ }
+    ensures { λ r. ⌜ Led (table (now (x .entry)) (now (y .entry)) (now (kit .entry))) (tree (shape nodes listed (now (level .entry)) (now (start .entry)) (now (count .entry)) (now (entries .entry))) (sides (now («x_lo» .entry)) (now («x_hi» .entry)) (now («y_lo» .entry)) (now («y_hi» .entry))) (now (kits .entry))) (take m kinds) allowance m (membersAt (levelsAt m top high) (set numbers at number) (sides (set west at w) (set east at e) (set south at s) (set north at n))) top (stand (now (steps .entry)) false (bestAt (now (known .entry)) (now (squared .entry)) (now (places .entry)))) (stand (now (steps .exit)) r (bestAt (now (known .exit)) (now (squared .exit)) (now (places .exit)))) ⌝ }
 {
     let mut names = numbers;
     let mut wests = west;
@@ -175,12 +175,9 @@ fn walk(
     members::put32(&mut easts, at, e);
     members::put32(&mut souths, at, s);
     members::put32(&mut norths, at, n);
-    let high = levels[top];
-    let o = open_at(start, count, kinds, top, high, names[top]);
-    let mut lower = levels;
-    members::put8(&mut lower, top, high - 1);
-    let next = members::find_topmost(m, &lower);
-    if lower[next] == 0 {
+    let next = members::next_top(m, top);
+    let lower = members::next_high(m, top, high);
+    if lower == 0 {
         return take_groups(
             level,
             start,
@@ -196,11 +193,10 @@ fn walk(
             kits,
             nodes,
             listed,
-            &kinds,
+            kinds,
             m,
             allowance,
-            o,
-            &levels,
+            top,
             &names,
             &wests,
             &easts,
@@ -212,6 +208,8 @@ fn walk(
             places,
         );
     }
+    let o = open_at(start, count, kinds, top, high, names[top]);
+    let left = members::next_high(m, next, lower);
     let mut k: usize = 0;
     while k < o.many {
         let here = o.first + k;
@@ -222,11 +220,57 @@ fn walk(
             }
             let p = entries[here];
             let b = members::box_of(o.leaf, tree::wide16(p), x, y, x_lo, x_hi, y_lo, y_hi);
-            let limit = members::limit_of(*known, *squared);
-            if members::row_of(m, &wests, &easts, &souths, &norths, top, b, limit) <= limit {
+            if members::is_near(
+                m,
+                &wests,
+                &easts,
+                &souths,
+                &norths,
+                top,
+                b,
+                *known,
+                *squared,
+            ) {
                 let bx = b.x;
                 let by = b.y;
-                if walk(
+                if left == 0 {
+                    members::put16(&mut names, top, p);
+                    members::put32(&mut wests, top, bx.lo);
+                    members::put32(&mut easts, top, bx.hi);
+                    members::put32(&mut souths, top, by.lo);
+                    members::put32(&mut norths, top, by.hi);
+                    if take_groups(
+                        level,
+                        start,
+                        count,
+                        entries,
+                        x,
+                        y,
+                        kit,
+                        x_lo,
+                        x_hi,
+                        y_lo,
+                        y_hi,
+                        kits,
+                        nodes,
+                        listed,
+                        kinds,
+                        m,
+                        allowance,
+                        next,
+                        &names,
+                        &wests,
+                        &easts,
+                        &souths,
+                        &norths,
+                        steps,
+                        known,
+                        squared,
+                        places,
+                    ) {
+                        return true;
+                    }
+                } else if walk(
                     level,
                     start,
                     count,
@@ -324,7 +368,7 @@ pub fn walk_all(
             m,
             allowance,
             0,
-            [level[0]; 8],
+            level[0],
             [0u16; 8],
             [bx.lo; 8],
             [bx.hi; 8],

@@ -1,4 +1,4 @@
-use mathlib.Core.Path.{_≡_, refl, sym, ap, ap₂, subst, _∙_}
+use mathlib.Core.Path.{_≡_, refl, sym, ap, ap₂, _∙_}
 use mathlib.Core.Bool.{true, false, false≢true}
 use mathlib.Core.List.{List}
 use mathlib.Core.Option.{none}
@@ -17,6 +17,7 @@ use Rattle.table.specs.Table.{Table, table}
 use Rattle.tree.specs.Tree.{Tree, Thing, node}
 use Rattle.tree.specs.Lent.{shape, sides, tree}
 use Rattle.tree.specs.Rules.{lengths, Room}
+use Rattle.members.specs.Levels.{levelsAt}
 use Rattle.members.specs.Best.{bestAt}
 use Rattle.walks.specs.Allowance.{Stand, stand}
 use Rattle.closest.specs.Candidate.{member, topmost, groupOf, entriesOf}
@@ -29,6 +30,7 @@ use Rattle.members.specs.declared.Best.{Best}
 use Rattle.walk.proofs.BridgeLaws.{stood}
 use Rattle.walk.proofs.EntryLaws.{meets}
 use Rattle.walk.proofs.TurnLaws.{taken-spent, taken-open}
+use Rattle.walk.proofs.OpenLaws.{opened-same, led-same}
 use Rattle.walk.proofs.RootLaws.{columns-roots, things-roots, fair-roots, top-roots, whole-roots}
 use Rattle.walk.proofs.walk_all.Statement.{statement}
 use Rattle.walk.proofs.walk_all.Tie as tie
@@ -82,24 +84,25 @@ boxed c = c .before .before .before .before .before .before .before .before .bef
 abbrev passed : ℤ → ℤ
 passed z = toZ w32 (ofZ w32 z)
 
-abbrev sent : Sent → List Member
-sent c =
-    let b = boxed c .box-at .result in
-    let l = getD (begin (boxed c) .args .level .now) 0 0 in
-    membersAt (replicate 8 l) (set (replicate 8 0) 0 0)
-    (sides (set (replicate 8 (passed (b .x .lo))) 0 (passed (b .x .lo))) (set (replicate 8 (passed (b .x .hi))) 0 (passed (b .x .hi))) (set (replicate 8 (passed (b .y .lo))) 0 (passed (b .y .lo))) (set (replicate 8 (passed (b .y .hi))) 0 (passed (b .y .hi))))
+abbrev columns : tie.Start → ℤ → ℤ → ℤ → ℤ → List Member
+columns s w e a b =
+    membersAt (levelsAt (s .args .m) 0 (getD (s .args .level .now) 0 0)) (set (replicate 8 0) 0 0) (sides (set (replicate 8 w) 0 w) (set (replicate 8 e) 0 e) (set (replicate 8 a) 0 a) (set (replicate 8 b) 0 b))
 
-sent-so : (c : Sent) → sent c ≡ replicate 8 (root (begin (boxed c)))
+abbrev sent : Sent → List Member
+sent c = let b = boxed c .box-at .result in columns (begin (boxed c)) (passed (b .x .lo)) (passed (b .x .hi)) (passed (b .y .lo)) (passed (b .y .hi))
+
+sent-so : (c : Sent) → let s = begin (boxed c) in take (s .args .m) (sent c) ≡ take (s .args .m) (replicate 8 (root s))
 sent-so c =
     let s = begin (boxed c) in
     let b = boxed c .box-at .result in
     let x = c .before .before .before .before .before .before .before .before .before .before .struct-told2 .given in
     let y = c .before .before .before .before .before .before .before .before .struct-told4 .given in
     let l = getD (s .args .level .now) 0 0 in
-    ap₂ (λ (u v : ℤ). membersAt (replicate 8 l) (replicate 8 0) (sides (replicate 8 u) (replicate 8 v) (replicate 8 (passed (b .y .lo))) (replicate 8 (passed (b .y .hi))))) (toZ-ofZ (fit (b .x .lo) (x .0 .1))) (toZ-ofZ (fit (b .x .hi) (x .1 .0 .1)))
-    ∙ ap₂ (λ (u v : ℤ). membersAt (replicate 8 l) (replicate 8 0) (sides (replicate 8 (b .x .lo)) (replicate 8 (b .x .hi)) (replicate 8 u) (replicate 8 v))) (toZ-ofZ (fit (b .y .lo) (y .0 .1))) (toZ-ofZ (fit (b .y .hi) (y .1 .0 .1)))
-    ∙ columns-roots (record { level = l; number = 0; at = b })
-    ∙ ap (λ (d : Box). replicate 8 (record { level = l; number = 0; at = d })) (boxed c .box-at .ensures)
+    ap (take (s .args .m))
+    (ap₂ (λ (u v : ℤ). columns s u v (passed (b .y .lo)) (passed (b .y .hi))) (toZ-ofZ (fit (b .x .lo) (x .0 .1))) (toZ-ofZ (fit (b .x .hi) (x .1 .0 .1)))
+    ∙ ap₂ (λ (u v : ℤ). columns s (b .x .lo) (b .x .hi) u v) (toZ-ofZ (fit (b .y .lo) (y .0 .1))) (toZ-ofZ (fit (b .y .hi) (y .1 .0 .1))))
+    ∙ columns-roots (s .args .m) (record { level = l; number = 0; at = b }) (s .pre .1 .0 .most)
+    ∙ ap (λ (d : Box). take (s .args .m) (replicate 8 (record { level = l; number = 0; at = d }))) (boxed c .box-at .ensures)
 
 -- nothing is known at first
 abbrev nothing : Best
@@ -130,7 +133,7 @@ open-so s = record {
 walk-requires : tie.Need-walk-requires
 walk-requires c κs =
     let s = begin (boxed c) in
-    (omega arith, (s .pre .0, (s .pre .1 .0, subst (λ (l : List Member). Opened (places s) (over s) (wanted s) (s .args .m) l 0 nothing) (sym (sent-so c)) (open-so s))))
+    (omega arith, (s .pre .0, (s .pre .1 .0, opened-same (sym (sent-so c)) (open-so s))))
 
 returns : tie.Need-returns
 returns c =
@@ -138,7 +141,7 @@ returns c =
     let s = begin (boxed d) in
     let last = c .walk .last .1 .1 .1 .1 .1 .1 .1 .1 .1 .1 .1 .1 .1 .1 .1 .1 .1 .1 .1 .1 .1 .1 .1 .1 .1 .1 .1 .1 .1 .1 in
     let after : Stand Best = stand (last .0) (c .walk .result) (bestAt (last .1 .0) (last .1 .1 .0) (last .1 .1 .1 .0)) in
-    let led : Led (places s) (over s) (wanted s) (s .args .allowance) (s .args .m) (replicate 8 (root s)) 0 (stand 1 false nothing) after = subst (λ (l : List Member). Led (places s) (over s) (wanted s) (s .args .allowance) (s .args .m) l 0 (stand 1 false nothing) after) (sent-so d) (c .walk .ensures) in
+    let led : Led (places s) (over s) (wanted s) (s .args .allowance) (s .args .m) (replicate 8 (root s)) 0 (stand 1 false nothing) after = led-same (sent-so d) (c .walk .ensures) in
     let from = ap₂ (λ (q : List Thing) (i : ℕ). leads (places s) (over s) (wanted s) (s .args .allowance) q i (entriesOf (over s .shape) (member q i)) (stand 1 false nothing)) (things s) (sym (top s)) in
     stood (meets (s .pre .0)) (wanted s) (s .pre .1 .1) (s .args .allowance) after
     (led .led ∙ from ∙ sym (taken-open (places s) (over s) (wanted s) (s .args .allowance) (roots (wanted s)) 0 nothing (d .before .before .before .before .before .before .before .before .before .before .before .before .before .before .before .if1 .taken) (λ e. absurd (false≢true e)) (whole s)))

@@ -23,7 +23,7 @@ use Rattle.closest.specs.Group.{Covers, diameter, better, IsAnswer}
 use Rattle.closest.specs.Walk.{wholeWalk, begins}
 use Rattle.closest.proofs.AnswerLaws.{none-exactly}
 use Rattle.walk.specs.State.{stateOf}
-use Rattle.walk.proofs.EntryLaws.{meets}
+use Rattle.groups.proofs.EntryLaws.{meets}
 use Rattle.search.specs.Search.{searchRules, refused, said, searched}
 use Rattle.search.proofs.SearchLaws.{sound-of, searched-fault}
 use Rattle.search.proofs.DemandLaws.{gives-none, gives-spent, gives-found}

@@ -16,7 +16,7 @@ use Rattle.verdict.specs.declared.Verdict.{Verdict}
 use Rattle.tree.proofs.TreeLaws.{meets-of}
 use Rattle.verdict.proofs.RuleLaws.{all-hold}
 use Rattle.order.proofs.TabLaws.{length-tab}
-use Rattle.walk.specs.Members.{Passes}
+use Rattle.groups.specs.Members.{Passes}
 use Rattle.build.specs.Levels.{nodes, listed}
 use Rattle.build.specs.Built.{built, column, entriesOf}
 use Rattle.build.specs.Room.{buildRules, over, writtenOver, afterwards}

@@ -23,7 +23,7 @@ use Rattle.closest.specs.Group.{Covers, farthest, spread, diameter, IsAnswer}
 use Rattle.closest.specs.Walk.{wholeWalk, begins, standsAt}
 use Rattle.closest.proofs.AnswerLaws.{walk-answers, none-exactly}
 use Rattle.walk.specs.State.{stateOf}
-use Rattle.walk.proofs.EntryLaws.{meets}
+use Rattle.groups.proofs.EntryLaws.{meets}
 use Rattle.search.specs.Search.{searchRules, refused, said, outcome, searched}
 use Rattle.search.specs.declared.Found.{Found}
 use Rattle.search.proofs.SearchLaws.{Sound, sound-of, outcome-spent, outcome-found, searched-none, searched-walk}

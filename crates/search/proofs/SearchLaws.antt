@@ -18,7 +18,7 @@ use Rattle.verdict.specs.declared.Verdict.{Verdict}
 use Rattle.verdict.proofs.RuleLaws.{none-broken, all-hold, passed, stopped}
 use Rattle.closest.specs.Walk.{begins, standsAt}
 use Rattle.closest.proofs.AnswerLaws.{member-of}
-use Rattle.walk.specs.Members.{Few, Passes}
+use Rattle.groups.specs.Members.{Few, Passes}
 use Rattle.walk.specs.State.{stateOf}
 use Rattle.walk.specs.declared.State.{State}
 use Rattle.search.specs.Search.{queryRules, searchRules, refused, said, outcome, searched}

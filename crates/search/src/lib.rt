@@ -8,7 +8,7 @@ ghost use Rattle.tree.specs.Tree.{Shape, Sides};
 ghost use Rattle.closest.specs.Walk.{begins};
 ghost use Rattle.tree.specs.Lent.{shape, sides, tree};
 ghost use Rattle.verdict.specs.Rules.{verdict};
-ghost use Rattle.walk.specs.Members.{Passes};
+ghost use Rattle.groups.specs.Members.{Passes};
 ghost use Rattle.search.specs.Search.{refused, outcome, queryRules, searchRules, searched};
 
 // What a search gives.

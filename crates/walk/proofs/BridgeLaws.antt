@@ -25,7 +25,8 @@ use Rattle.closest.specs.Walk.{holds, boxes, roots, wholeWalk, begins, standsAt
 use Rattle.closest.proofs.CandidateLaws.{group-is}
 use Rattle.closest.proofs.ReachLaws.{Fine, closed}
 use Rattle.closest.proofs.AnswerLaws.{sound, begun-of, roots-fine}
-use Rattle.walk.specs.State.{bestOf, stateOf, boundOf, kept, walkBest}
+use Rattle.groups.specs.Leads.{boundOf, kept, walkBest}
+use Rattle.walk.specs.State.{bestOf, stateOf}
 use Rattle.members.specs.declared.Best.{Best}
 use Rattle.walk.specs.declared.State.{State}
 

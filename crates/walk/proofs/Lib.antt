@@ -1,14 +1,3 @@
--- The walk meets its contracts.
-pub mod AheadLaws
-pub mod StepLaws
-pub mod TurnLaws
-pub mod EntryLaws
-pub mod Opens
-pub mod RunLaws
-pub mod MemberLaws
-pub mod ColumnLaws
-pub mod OpenLaws
-pub mod NextLaws
-pub mod LoopLaws
+-- The walk meets its contract.
 pub mod RootLaws
 pub mod BridgeLaws

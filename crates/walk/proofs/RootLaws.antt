@@ -13,13 +13,13 @@ use Rattle.tree.specs.Tree.{Tree, Sides, place, node, level}
 use Rattle.tree.specs.Lent.{sides}
 use Rattle.closest.specs.Candidate.{member, topmost, groupOf}
 use Rattle.closest.specs.Walk.{roots}
-use Rattle.walk.specs.Members.{Member, memberOf, membersOf, nobody, membersAt, thingOf, thingsOf, Real, Fair, Passes}
-use Rattle.walk.proofs.EntryLaws.{node-high}
+use Rattle.groups.specs.Members.{Member, memberOf, membersOf, nobody, membersAt, thingOf, thingsOf, Real, Fair, Passes}
+use Rattle.groups.proofs.EntryLaws.{node-high}
 use Rattle.members.specs.Levels.{levelsAt}
 use Rattle.members.proofs.LevelLaws.{from, levels-same, top-at}
-use Rattle.walk.proofs.TurnLaws.{no-group}
-use Rattle.walk.proofs.ColumnLaws.{members-long, member-at}
-use Rattle.walk.proofs.OpenLaws.{thing-of}
+use Rattle.groups.proofs.TurnLaws.{no-group}
+use Rattle.groups.proofs.ColumnLaws.{members-long, member-at}
+use Rattle.groups.proofs.OpenLaws.{thing-of}
 
 take-replicate : {A : Type 0} (m n : ℕ) (a : A) → m ≤ n → take m (replicate n a) ≡ replicate m a
 take-replicate zero n a h = refl

@@ -1,4 +1,2 @@
--- What the contracts of the walk's code cite.
-pub mod Members
+-- What the contract of the walk cites.
 pub mod State
-pub mod Opening

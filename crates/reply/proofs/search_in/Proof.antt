@@ -6,7 +6,7 @@ use Rattle.tree.specs.Tree.{Tree}
 use Rattle.tree.specs.Lent.{shape, sides, tree}
 use Rattle.tree.specs.Rules.{Room, lengths}
 use Rattle.build.specs.Built.{built}
-use Rattle.walk.specs.Members.{Passes}
+use Rattle.groups.specs.Members.{Passes}
 use Rattle.search.specs.Search.{searched}
 use Rattle.reply.proofs.BuiltLaws.{built-sound, used, made-room, used-built}
 use Rattle.reply.proofs.search_in.Statement.{statement}

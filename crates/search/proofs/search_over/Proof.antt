@@ -11,9 +11,9 @@ use Rattle.table.specs.Table.{Table, table}
 use Rattle.tree.specs.Tree.{Tree}
 use Rattle.tree.specs.Lent.{shape, sides, tree}
 use Rattle.closest.specs.Walk.{begins, standsAt}
-use Rattle.walk.specs.Members.{Few}
+use Rattle.groups.specs.Members.{Few}
 use Rattle.walk.specs.State.{stateOf}
-use Rattle.walk.proofs.EntryLaws.{meets}
+use Rattle.groups.proofs.EntryLaws.{meets}
 use Rattle.search.specs.Search.{outcome}
 use Rattle.search.proofs.SearchLaws.{take-padded, few-of, Sound, sound-want, searched-want, searched-none, searched-walk}
 use Rattle.search.proofs.search_over.Statement.{statement}

@@ -23,14 +23,14 @@ use Rattle.walks.specs.Allowance.{Stand, stand}
 use Rattle.closest.specs.Candidate.{member, topmost, groupOf, entriesOf}
 use Rattle.closest.specs.Walk.{roots}
 use Rattle.closest.proofs.AnswerLaws.{begun-of}
-use Rattle.walk.specs.Members.{Member, memberOf, membersAt, thingsOf}
-use Rattle.walk.specs.Opening.{Opened, Led}
-use Rattle.walk.specs.State.{leads}
+use Rattle.groups.specs.Members.{Member, memberOf, membersAt, thingsOf}
+use Rattle.groups.specs.Opening.{Opened, Led}
+use Rattle.groups.specs.Leads.{leads}
 use Rattle.members.specs.declared.Best.{Best}
 use Rattle.walk.proofs.BridgeLaws.{stood}
-use Rattle.walk.proofs.EntryLaws.{meets}
-use Rattle.walk.proofs.TurnLaws.{taken-spent, taken-open}
-use Rattle.walk.proofs.OpenLaws.{opened-same, led-same}
+use Rattle.groups.proofs.EntryLaws.{meets}
+use Rattle.groups.proofs.TurnLaws.{taken-spent, taken-open}
+use Rattle.groups.proofs.OpenLaws.{opened-same, led-same}
 use Rattle.walk.proofs.RootLaws.{columns-roots, things-roots, fair-roots, top-roots, whole-roots}
 use Rattle.walk.proofs.walk_all.Statement.{statement}
 use Rattle.walk.proofs.walk_all.Tie as tie
@@ -67,8 +67,8 @@ box-at-requires c κs =
 abbrev begin : tie.After-box-at → tie.Start
 begin c = c .before .before .before .before .before .before .before
 
-shared-slice-read-walk : tie.Need-shared-slice-read-walk
-shared-slice-read-walk c = let s = begin (c .before .before .before .before) in omega (arith, some s, room s .level)
+shared-slice-read-descend : tie.Need-shared-slice-read-descend
+shared-slice-read-descend c = let s = begin (c .before .before .before .before) in omega (arith, some s, room s .level)
 
 -- the root's member
 abbrev root : tie.Start → Member
@@ -130,8 +130,8 @@ open-so s = record {
   eight = refl;
 }
 
-walk-requires : tie.Need-walk-requires
-walk-requires c κs =
+descend-requires : tie.Need-descend-requires
+descend-requires c κs =
     let s = begin (boxed c) in
     (omega arith, (s .pre .0, (s .pre .1 .0, opened-same (sym (sent-so c)) (open-so s))))
 
@@ -139,9 +139,9 @@ returns : tie.Need-returns
 returns c =
     let d : Sent = c .before in
     let s = begin (boxed d) in
-    let last = c .walk .last .1 .1 .1 .1 .1 .1 .1 .1 .1 .1 .1 .1 .1 .1 .1 .1 .1 .1 .1 .1 .1 .1 .1 .1 .1 .1 .1 .1 .1 .1 in
-    let after : Stand Best = stand (last .0) (c .walk .result) (bestAt (last .1 .0) (last .1 .1 .0) (last .1 .1 .1 .0)) in
-    let led : Led (places s) (over s) (wanted s) (s .args .allowance) (s .args .m) (replicate 8 (root s)) 0 (stand 1 false nothing) after = led-same (sent-so d) (c .walk .ensures) in
+    let last = c .descend .last .1 .1 .1 .1 .1 .1 .1 .1 .1 .1 .1 .1 .1 .1 .1 .1 .1 .1 .1 .1 .1 .1 .1 .1 .1 .1 .1 .1 .1 .1 in
+    let after : Stand Best = stand (last .0) (c .descend .result) (bestAt (last .1 .0) (last .1 .1 .0) (last .1 .1 .1 .0)) in
+    let led : Led (places s) (over s) (wanted s) (s .args .allowance) (s .args .m) (replicate 8 (root s)) 0 (stand 1 false nothing) after = led-same (sent-so d) (c .descend .ensures) in
     let from = ap₂ (λ (q : List Thing) (i : ℕ). leads (places s) (over s) (wanted s) (s .args .allowance) q i (entriesOf (over s .shape) (member q i)) (stand 1 false nothing)) (things s) (sym (top s)) in
     stood (meets (s .pre .0)) (wanted s) (s .pre .1 .1) (s .args .allowance) after
     (led .led ∙ from ∙ sym (taken-open (places s) (over s) (wanted s) (s .args .allowance) (roots (wanted s)) 0 nothing (d .before .before .before .before .before .before .before .before .before .before .before .before .before .before .before .if1 .taken) (λ e. absurd (false≢true e)) (whole s)))
@@ -152,4 +152,4 @@ returns-2 c =
     stood (meets (s .pre .0)) (wanted s) (s .pre .1 .1) (s .args .allowance) (stand 0 true nothing) (sym (taken-spent (places s) (over s) (wanted s) (s .args .allowance) (roots (wanted s)) 0 nothing (c .if1 .left)))
 
 pub walk-all-spec : {M : Type 1} → statement M
-walk-all-spec = tie.close (tie.spec box-at-requires shared-slice-read-walk walk-requires returns returns-2)
+walk-all-spec = tie.close (tie.spec box-at-requires shared-slice-read-descend descend-requires returns returns-2)

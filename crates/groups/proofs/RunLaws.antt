@@ -10,10 +10,10 @@ use lib.Seq.{getD-take}
 use Rattle.table.specs.Table.{Table}
 use Rattle.tree.specs.Tree.{Tree, place, thing, countOf}
 use Rattle.closest.specs.Candidate.{entry}
-use Rattle.walk.specs.Members.{Member, Real, Few, Passes}
-use Rattle.walk.specs.declared.Opening.{Opening}
-use Rattle.walk.proofs.Opens.{Opens}
-use Rattle.walk.proofs.EntryLaws.{Reads, reads-of, entry-listed, entry-few, entry-real}
+use Rattle.groups.specs.Members.{Member, Real, Few, Passes}
+use Rattle.groups.specs.declared.Opening.{Opening}
+use Rattle.groups.proofs.Opens.{Opens}
+use Rattle.groups.proofs.EntryLaws.{Reads, reads-of, entry-listed, entry-few, entry-real}
 
 -- a wanted kind is one of 64
 pub kind-small : {tree : Tree} (kinds : List ℕ) (m : ℕ) {cand : List Member} {o : Opening} → Opens tree (take m kinds) m cand o → Few m kinds → o .kind < 64

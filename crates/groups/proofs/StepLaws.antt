@@ -19,9 +19,9 @@ use Rattle.walks.proofs.WalkLaws.{at-open}
 use Rattle.closest.specs.Candidate.{member, entry, entriesOf, topmost, levels, groupOf, replaced, opened, scene, tooFar}
 use Rattle.closest.specs.Walk.{holds, boxes}
 use Rattle.closest.proofs.CandidateLaws.{levels-set}
-use Rattle.walk.specs.State.{kept, walkBest, ahead, leads}
+use Rattle.groups.specs.Leads.{kept, walkBest, ahead, leads}
 use Rattle.members.specs.declared.Best.{Best}
-use Rattle.walk.proofs.AheadLaws.{ahead-none, ahead-more, step-known, stays}
+use Rattle.groups.proofs.AheadLaws.{ahead-none, ahead-more, step-known, stays}
 
 -- a member is replaced by a thing one level lower
 pub one-lower : (s : Shape) (c : List Thing) (i : ℕ) (y : Thing) → i < length c → level s (member c i) ≡ suc (level s y) → levels s c ≡ suc (levels s (set c i y))

@@ -22,20 +22,20 @@ use Rattle.closest.proofs.CandidateLaws.{open-is}
 use Rattle.members.specs.Boxes.{without, UpTo}
 use Rattle.members.specs.Levels.{levelsAt, nextTop, nextHigh}
 use Rattle.members.specs.Best.{limitOf, near}
-use Rattle.walk.specs.Members.{Member, memberOf, nobody, boxesOf, membersAt, thingsOf, Fair, Passes}
-use Rattle.walk.specs.Opening.{Opened}
-use Rattle.walk.specs.State.{Near}
+use Rattle.groups.specs.Members.{Member, memberOf, nobody, boxesOf, membersAt, thingsOf, Fair, Passes}
+use Rattle.groups.specs.Opening.{Opened}
+use Rattle.groups.specs.Leads.{Near}
 use Rattle.members.specs.declared.Best.{Best}
-use Rattle.walk.specs.declared.Opening.{Opening}
-use Rattle.walk.proofs.Opens.{Opens, Last}
+use Rattle.groups.specs.declared.Opening.{Opening}
+use Rattle.groups.proofs.Opens.{Opens, Last}
 use Rattle.members.proofs.BoxesLaws.{spread-set}
 use Rattle.members.proofs.LevelLaws.{top-in, high-back, levels-eight, from, levels-next, level-top, top-at, all-down}
-use Rattle.walk.proofs.MemberLaws.{set-map, numbers-are, levels-are}
-use Rattle.walk.proofs.EntryLaws.{entry-lower, entry-within}
-use Rattle.walk.proofs.RunLaws.{in-run, is-entry, real}
-use Rattle.walk.proofs.TurnLaws.{group-of, no-group}
-use Rattle.walk.proofs.ColumnLaws.{members-long, member-at, levels-of}
-use Rattle.walk.proofs.OpenLaws.{stand, many, top-inside, top-there, opens, fair-set, things-set, spread-in, spread-next, spread-rises}
+use Rattle.groups.proofs.MemberLaws.{set-map, numbers-are, levels-are}
+use Rattle.groups.proofs.EntryLaws.{entry-lower, entry-within}
+use Rattle.groups.proofs.RunLaws.{in-run, is-entry, real}
+use Rattle.groups.proofs.TurnLaws.{group-of, no-group}
+use Rattle.groups.proofs.ColumnLaws.{members-long, member-at, levels-of}
+use Rattle.groups.proofs.OpenLaws.{stand, many, top-inside, top-there, opens, fair-set, things-set, spread-in, spread-next, spread-rises}
 
 number-of : (leaf : Bool) (e : ℕ) → number (thing leaf e) ≡ e
 number-of true e = refl

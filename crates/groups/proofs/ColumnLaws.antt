@@ -14,8 +14,8 @@ use Rattle.order.proofs.TabLaws.{length-tab, getD-tab}
 use Rattle.tree.specs.Tree.{Sides, boxAt}
 use Rattle.tree.specs.Lent.{sides}
 use Rattle.members.specs.Boxes.{boxesAt, without}
-use Rattle.walk.specs.Members.{Member, nobody, boxesOf, membersAt}
-use Rattle.walk.proofs.MemberLaws.{set-map}
+use Rattle.groups.specs.Members.{Member, nobody, boxesOf, membersAt}
+use Rattle.groups.proofs.MemberLaws.{set-map}
 
 -- ---- lists
 

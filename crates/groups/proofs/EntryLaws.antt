@@ -16,7 +16,7 @@ use Rattle.tree.proofs.TreeLaws as tree-laws
 use Rattle.tree.proofs.RangeLaws.{node-ranged}
 use Rattle.closest.specs.Candidate.{entry}
 use Rattle.closest.proofs.EntryLaws.{known-good}
-use Rattle.walk.specs.Members.{Real, Passes}
+use Rattle.groups.specs.Members.{Real, Passes}
 
 module _ {t : Table} {tree : Tree} (p : Passes t tree) where
   pub meets : Meets t tree

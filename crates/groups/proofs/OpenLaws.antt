@@ -24,15 +24,15 @@ use Rattle.closest.proofs.SpreadLaws.{Mates, spread-grows}
 use Rattle.closest.proofs.CandidateLaws.{inside, open-is}
 use Rattle.closest.proofs.EntryLaws.{is-place}
 use Rattle.members.specs.Boxes.{without, AllRanged}
-use Rattle.walk.specs.Members.{Member, memberOf, membersOf, Placed, nobody, boxesOf, thingOf, thingsOf, Real, Fair, Passes}
-use Rattle.walk.specs.Opening.{Opened, Led}
-use Rattle.walk.specs.State.{Near, leads}
+use Rattle.groups.specs.Members.{Member, memberOf, membersOf, Placed, nobody, boxesOf, thingOf, thingsOf, Real, Fair, Passes}
+use Rattle.groups.specs.Opening.{Opened, Led}
+use Rattle.groups.specs.Leads.{Near, leads}
 use Rattle.members.specs.declared.Best.{Best}
-use Rattle.walk.specs.declared.Opening.{Opening}
-use Rattle.walk.proofs.Opens.{Opens}
-use Rattle.walk.proofs.EntryLaws.{meets, ranged, node-high}
+use Rattle.groups.specs.declared.Opening.{Opening}
+use Rattle.groups.proofs.Opens.{Opens}
+use Rattle.groups.proofs.EntryLaws.{meets, ranged, node-high}
 use Rattle.members.proofs.BoxesLaws.{spread-set}
-use Rattle.walk.proofs.MemberLaws.{boxes-are, StandFor, stands-at, getD-map, set-map, replaced-so}
+use Rattle.groups.proofs.MemberLaws.{boxes-are, StandFor, stands-at, getD-map, set-map, replaced-so}
 
 all-ranged : (l : List Box) (d : Box) → ((i : ℕ) → i < length l → Ranged (getD l i d)) → AllRanged l
 all-ranged [] d h = tt

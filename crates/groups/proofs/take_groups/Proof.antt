@@ -19,20 +19,20 @@ use Rattle.walks.specs.Allowance.{Stand, stand}
 use Rattle.closest.specs.Group.{farthest, spread}
 use Rattle.closest.specs.Candidate.{number, entry}
 use Rattle.closest.specs.Walk.{holds}
-use Rattle.walk.specs.Members.{Member, boxesOf, membersAt, thingsOf}
-use Rattle.walk.specs.Opening.{Led}
+use Rattle.groups.specs.Members.{Member, boxesOf, membersAt, thingsOf}
+use Rattle.groups.specs.Opening.{Led}
 use Rattle.members.specs.declared.Best.{Best}
-use Rattle.walk.specs.declared.Opening.{Opening}
-use Rattle.walk.proofs.Opens.{Last}
-use Rattle.walk.proofs.EntryLaws.{meets, ranged, Reads}
-use Rattle.walk.proofs.RunLaws.{kind-small, in-list, in-few, is-place, real, reads}
+use Rattle.groups.specs.declared.Opening.{Opening}
+use Rattle.groups.proofs.Opens.{Last}
+use Rattle.groups.proofs.EntryLaws.{meets, ranged, Reads}
+use Rattle.groups.proofs.RunLaws.{kind-small, in-list, in-few, is-place, real, reads}
 use Rattle.members.proofs.PlaceLaws.{group-long}
-use Rattle.walk.proofs.ColumnLaws.{boxes-of, numbers-of}
-use Rattle.walk.proofs.OpenLaws.{boxes-ranged}
-use Rattle.walk.proofs.NextLaws.{Ready, groups, next, next-made, next-numbers, lead-inside, lead-there, ready, levels-down, up-near, up-known, up-far}
-use Rattle.walk.proofs.LoopLaws.{Going, at-first, over, skips, spends, drops, learns}
-use Rattle.walk.proofs.take_groups.Statement.{statement}
-use Rattle.walk.proofs.take_groups.Tie as tie
+use Rattle.groups.proofs.ColumnLaws.{boxes-of, numbers-of}
+use Rattle.groups.proofs.OpenLaws.{boxes-ranged}
+use Rattle.groups.proofs.NextLaws.{Ready, groups, next, next-made, next-numbers, lead-inside, lead-there, ready, levels-down, up-near, up-known, up-far}
+use Rattle.groups.proofs.LoopLaws.{Going, at-first, over, skips, spends, drops, learns}
+use Rattle.groups.proofs.take_groups.Statement.{statement}
+use Rattle.groups.proofs.take_groups.Tie as tie
 
 -- the loop knows the kind of the opened member only, so it keeps this for all wanted kinds of which that is one
 abbrev Inv-loop : tie.InvT-loop

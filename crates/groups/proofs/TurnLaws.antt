@@ -18,10 +18,10 @@ use Rattle.walks.proofs.WalkLaws.{at-drop, at-group, at-open}
 use Rattle.closest.specs.Group.{spread, diameter}
 use Rattle.closest.specs.Candidate.{number, member, topmost, groupOf, entry, entriesOf, scene, boxesIn, tooFar}
 use Rattle.closest.specs.Walk.{holds, boxes}
-use Rattle.walk.specs.State.{Near, kept, walkBest, leads}
+use Rattle.groups.specs.Leads.{Near, kept, walkBest, leads}
 use Rattle.members.specs.declared.Best.{Best}
-use Rattle.walk.proofs.AheadLaws.{stays}
-use Rattle.walk.proofs.StepLaws.{turn-spent, walk-open, again-held}
+use Rattle.groups.proofs.AheadLaws.{stays}
+use Rattle.groups.proofs.StepLaws.{turn-spent, walk-open, again-held}
 
 -- ---- steps against an allowance
 

@@ -7,7 +7,7 @@ use Prim.Native.Nat.{ℕ, _+_}
 use lib.Dec.{ltb}
 use Rattle.walks.specs.Allowance.{Stand, stand, step, advance}
 use Rattle.walks.specs.Walk.{final, chain}
-use Rattle.walk.specs.State.{ahead}
+use Rattle.groups.specs.Leads.{ahead}
 
 module _ {K : Type 0} (a : ℕ) where
   advance-append : (l k : List K) (w : Stand K) → advance a (l ++ k) w ≡ advance a k (advance a l w)

@@ -1,6 +1,6 @@
 use borrow.Author.Needs.{needs}
-use Rattle.walk.proofs.open_at.Statement.{statement}
-use Rattle.walk.proofs.open_at.Tie as tie
+use Rattle.groups.proofs.open_at.Statement.{statement}
+use Rattle.groups.proofs.open_at.Tie as tie
 
 wide16-requires : tie.Need-wide16-requires
 wide16-requires c κs = search needs

@@ -8,8 +8,8 @@ use lib.Dec.{eqb}
 use lib.ListN.{take, getD, set}
 use Rattle.tree.specs.Tree.{Tree, Thing, node, level, levelOf, startOf, countOf}
 use Rattle.closest.specs.Candidate.{number, member, groupOf}
-use Rattle.walk.specs.Members.{Member, thingsOf}
-use Rattle.walk.specs.declared.Opening.{Opening}
+use Rattle.groups.specs.Members.{Member, thingsOf}
+use Rattle.groups.specs.declared.Opening.{Opening}
 
 -- the member to replace, a node; its kind and its run
 pub record Opens (tree : Tree) (kinds : List ℕ) (m : ℕ) (cand : List Member) (o : Opening) : Type 0 where

@@ -30,19 +30,19 @@ use Rattle.members.specs.Levels.{levelsAt, nextTop, nextHigh}
 use Rattle.members.specs.Best.{bestAt, near}
 use Rattle.members.specs.declared.Best.{Best}
 use Rattle.members.proofs.LevelLaws.{top-on, top-back, high-on, high-back, top-in, high-last, levels-eight, levels-next}
-use Rattle.walk.specs.Members.{Member, boxesOf, membersAt, thingsOf}
-use Rattle.walk.specs.Opening.{Opened, Led}
-use Rattle.walk.specs.State.{Near}
-use Rattle.walk.specs.declared.Opening.{Opening}
-use Rattle.walk.proofs.EntryLaws.{meets, ranged, Reads}
-use Rattle.walk.proofs.RunLaws.{kind-small, in-list, in-few, is-entry, real, reads}
-use Rattle.walk.proofs.ColumnLaws.{boxes-of, Eight, put, eight-put, members-set, Beside, beside-self, beside-put, others-same}
-use Rattle.walk.proofs.OpenLaws.{boxes-ranged}
-use Rattle.walk.proofs.NextLaws.{Ready, lower, next, next-long, next-fair, next-things, lower-is, top-below, more-below, member-is, comes, near-so, far-so, lead-inside, lead-high, lead-there, ready as made-ready, levels-down}
-use Rattle.walk.proofs.LoopLaws.{Going, at-first, over, skips, spends, drops, goes-on, stops}
-use Rattle.walk.proofs.walk.Reads as walk
-use Rattle.walk.proofs.walk.Kinds as walk-kinds
-use Rattle.walk.proofs.+walk.Lts-walk as lts
+use Rattle.groups.specs.Members.{Member, boxesOf, membersAt, thingsOf}
+use Rattle.groups.specs.Opening.{Opened, Led}
+use Rattle.groups.specs.Leads.{Near}
+use Rattle.groups.specs.declared.Opening.{Opening}
+use Rattle.groups.proofs.EntryLaws.{meets, ranged, Reads}
+use Rattle.groups.proofs.RunLaws.{kind-small, in-list, in-few, is-entry, real, reads}
+use Rattle.groups.proofs.ColumnLaws.{boxes-of, Eight, put, eight-put, members-set, Beside, beside-self, beside-put, others-same}
+use Rattle.groups.proofs.OpenLaws.{boxes-ranged}
+use Rattle.groups.proofs.NextLaws.{Ready, lower, next, next-long, next-fair, next-things, lower-is, top-below, more-below, member-is, comes, near-so, far-so, lead-inside, lead-high, lead-there, ready as made-ready, levels-down}
+use Rattle.groups.proofs.LoopLaws.{Going, at-first, over, skips, spends, drops, goes-on, stops}
+use Rattle.descent.proofs.descend.Reads as descend
+use Rattle.descent.proofs.descend.Kinds as descend-kinds
+use Rattle.descent.proofs.+descend.Lts-descend as lts
 use Rattle.tree.proofs.wide16.Reads as wide16-reads
 use Rattle.members.proofs.box_of.Reads as box-of-reads
 use Rattle.members.proofs.holds_at.Reads as holds-at-reads
@@ -52,20 +52,20 @@ use Rattle.members.proofs.next_top.Reads as next-top-reads
 use Rattle.members.proofs.put16.Reads as put16-reads
 use Rattle.members.proofs.put32.Reads as put32-reads
 use Rattle.members.proofs.take_step.Reads as take-step-reads
-use Rattle.walk.proofs.open_at.Reads as open-at-reads
-use Rattle.walk.proofs.take_groups.Reads as take-groups-reads
-use Rattle.walk.proofs.+walk.{statement}
-use Rattle.walk.proofs.+walk.Tie.{close}
+use Rattle.groups.proofs.open_at.Reads as open-at-reads
+use Rattle.groups.proofs.take_groups.Reads as take-groups-reads
+use Rattle.descent.proofs.+descend.{statement}
+use Rattle.descent.proofs.+descend.Tie.{close}
 
 -- the levels go down in turn
-abbrev μ-walk : Measures 16 walk-kinds.ps ℕ
-μ-walk κs a = let b = a .1 .1 .1 .1 .1 .1 .1 .1 .1 .1 .1 .1 .1 .1 .1 .1 .1 in b .1 .0 * 8 + 8 - b .0
+abbrev μ-descend : Measures 16 descend-kinds.ps ℕ
+μ-descend κs a = let b = a .1 .1 .1 .1 .1 .1 .1 .1 .1 .1 .1 .1 .1 .1 .1 .1 .1 in b .1 .0 * 8 + 8 - b .0
 
-abbrev walk-at : ℕ → In 16 walk-kinds.ps
-walk-at t = and 16 walk-kinds.ps (is 16 walk-kinds.ps μ-walk t) walk.Pre
+abbrev descend-at : ℕ → In 16 descend-kinds.ps
+descend-at t = and 16 descend-kinds.ps (is 16 descend-kinds.ps μ-descend t) descend.Pre
 
-abbrev walk-below : ℕ → In 16 walk-kinds.ps
-walk-below t = and 16 walk-kinds.ps (falls 16 walk-kinds.ps _<_ μ-walk t) walk.Pre
+abbrev descend-below : ℕ → In 16 descend-kinds.ps
+descend-below t = and 16 descend-kinds.ps (falls 16 descend-kinds.ps _<_ μ-descend t) descend.Pre
 
 abbrev claims : ℕ → lts.Claims
 claims t = (
@@ -91,8 +91,8 @@ claims t = (
   box-of-reads.Learnt,
   is-near-reads.Asked,
   is-near-reads.Learnt,
-  walk-below t,
-  walk.Post,
+  descend-below t,
+  descend.Post,
 )
 
 -- the columns are those of the candidate, but for the replaced member
@@ -120,49 +120,49 @@ put-told e i b (p, (q, (r, o))) =
 module _ (t : ℕ) where
   -- the places that the proof speaks of
   abbrev Start : Type 0
-  Start = lts.Start (claims t) (walk-at t) walk.Post Inv-loop μ-loop
+  Start = lts.Start (claims t) (descend-at t) descend.Post Inv-loop μ-loop
 
   abbrev Made : Type 0
-  Made = lts.After-put324 (claims t) (walk-at t) walk.Post Inv-loop μ-loop
+  Made = lts.After-put324 (claims t) (descend-at t) descend.Post Inv-loop μ-loop
 
   abbrev Turned : Type 0
-  Turned = lts.After-next-high (claims t) (walk-at t) walk.Post Inv-loop μ-loop
+  Turned = lts.After-next-high (claims t) (descend-at t) descend.Post Inv-loop μ-loop
 
   abbrev Open : Type 0
-  Open = lts.After-open-at (claims t) (walk-at t) walk.Post Inv-loop μ-loop
+  Open = lts.After-open-at (claims t) (descend-at t) descend.Post Inv-loop μ-loop
 
   abbrev Deep : Type 0
-  Deep = lts.After-next-high2 (claims t) (walk-at t) walk.Post Inv-loop μ-loop
+  Deep = lts.After-next-high2 (claims t) (descend-at t) descend.Post Inv-loop μ-loop
 
   abbrev Loop : Type 0
-  Loop = lts.At-loop (claims t) (walk-at t) walk.Post Inv-loop μ-loop
+  Loop = lts.At-loop (claims t) (descend-at t) descend.Post Inv-loop μ-loop
 
   abbrev Entry : Type 0
-  Entry = lts.After-struct-known2 (claims t) (walk-at t) walk.Post Inv-loop μ-loop
+  Entry = lts.After-struct-known2 (claims t) (descend-at t) descend.Post Inv-loop μ-loop
 
   abbrev Asked : Type 0
-  Asked = lts.After-holds-at (claims t) (walk-at t) walk.Post Inv-loop μ-loop
+  Asked = lts.After-holds-at (claims t) (descend-at t) descend.Post Inv-loop μ-loop
 
   abbrev Boxed : Type 0
-  Boxed = lts.After-box-of (claims t) (walk-at t) walk.Post Inv-loop μ-loop
+  Boxed = lts.After-box-of (claims t) (descend-at t) descend.Post Inv-loop μ-loop
 
   abbrev Measured : Type 0
-  Measured = lts.After-is-near (claims t) (walk-at t) walk.Post Inv-loop μ-loop
+  Measured = lts.After-is-near (claims t) (descend-at t) descend.Post Inv-loop μ-loop
 
   abbrev Come : Type 0
-  Come = lts.After-by (claims t) (walk-at t) walk.Post Inv-loop μ-loop
+  Come = lts.After-by (claims t) (descend-at t) descend.Post Inv-loop μ-loop
 
   abbrev Put : Type 0
-  Put = lts.After-put328 (claims t) (walk-at t) walk.Post Inv-loop μ-loop
+  Put = lts.After-put328 (claims t) (descend-at t) descend.Post Inv-loop μ-loop
 
   abbrev Grouped : Type 0
-  Grouped = lts.After-take-groups2 (claims t) (walk-at t) walk.Post Inv-loop μ-loop
+  Grouped = lts.After-take-groups2 (claims t) (descend-at t) descend.Post Inv-loop μ-loop
 
   abbrev Sent : Type 0
-  Sent = lts.After-struct-told8 (claims t) (walk-at t) walk.Post Inv-loop μ-loop
+  Sent = lts.After-struct-told8 (claims t) (descend-at t) descend.Post Inv-loop μ-loop
 
   abbrev Taken : Type 0
-  Taken = lts.After-walk (claims t) (walk-at t) walk.Post Inv-loop μ-loop
+  Taken = lts.After-descend (claims t) (descend-at t) descend.Post Inv-loop μ-loop
 
   abbrev begin : Made → Start
   begin c = c .before .before .before .before .before .before .before .before .before .before .before .before .before .before .before .before
@@ -293,30 +293,30 @@ module _ (t : ℕ) where
   high-so : (d : Made) → 0 < begin d .args .high
   high-so d = let s = begin d in lead-high (s .pre .1 .1 .0) (s .args .kinds) (s .args .m) (few d) (s .args .top) (s .args .high) (names d) (ends d) (open-so d)
 
-  put16-requires : lts.Need-put16-requires (claims t) (walk-at t) walk.Post Inv-loop μ-loop
+  put16-requires : lts.Need-put16-requires (claims t) (descend-at t) descend.Post Inv-loop μ-loop
   put16-requires c κs = c .before .before .before .before .before .before .before .pre .1 .0
 
-  put32-requires : lts.Need-put32-requires (claims t) (walk-at t) walk.Post Inv-loop μ-loop
+  put32-requires : lts.Need-put32-requires (claims t) (descend-at t) descend.Post Inv-loop μ-loop
   put32-requires c κs = c .before .before .before .before .before .before .before .before .before .pre .1 .0
 
-  put32-requires-2 : lts.Need-put32-requires-2 (claims t) (walk-at t) walk.Post Inv-loop μ-loop
+  put32-requires-2 : lts.Need-put32-requires-2 (claims t) (descend-at t) descend.Post Inv-loop μ-loop
   put32-requires-2 c κs = c .before .before .before .before .before .before .before .before .before .before .before .pre .1 .0
 
-  put32-requires-3 : lts.Need-put32-requires-3 (claims t) (walk-at t) walk.Post Inv-loop μ-loop
+  put32-requires-3 : lts.Need-put32-requires-3 (claims t) (descend-at t) descend.Post Inv-loop μ-loop
   put32-requires-3 c κs = c .before .before .before .before .before .before .before .before .before .before .before .before .before .pre .1 .0
 
-  put32-requires-4 : lts.Need-put32-requires-4 (claims t) (walk-at t) walk.Post Inv-loop μ-loop
+  put32-requires-4 : lts.Need-put32-requires-4 (claims t) (descend-at t) descend.Post Inv-loop μ-loop
   put32-requires-4 c κs = c .before .before .before .before .before .before .before .before .before .before .before .before .before .before .before .pre .1 .0
 
-  next-top-requires : lts.Need-next-top-requires (claims t) (walk-at t) walk.Post Inv-loop μ-loop
+  next-top-requires : lts.Need-next-top-requires (claims t) (descend-at t) descend.Post Inv-loop μ-loop
   next-top-requires c κs = (few c, inside c)
 
-  next-high-requires : lts.Need-next-high-requires (claims t) (walk-at t) walk.Post Inv-loop μ-loop
+  next-high-requires : lts.Need-next-high-requires (claims t) (descend-at t) descend.Post Inv-loop μ-loop
   next-high-requires c κs = (few (c .before), (inside (c .before), high-so (c .before)))
 
   -- ---- a candidate of which groups come
 
-  take-groups-requires : lts.Need-take-groups-requires (claims t) (walk-at t) walk.Post Inv-loop μ-loop
+  take-groups-requires : lts.Need-take-groups-requires (claims t) (descend-at t) descend.Post Inv-loop μ-loop
   take-groups-requires c κs =
       let shut = c .before .before .before .before .before .before .before .before .before in
       let d = made (shut .before) in
@@ -337,7 +337,7 @@ module _ (t : ℕ) where
       Led (places s) (over-tree s) (wanted s) (s .args .allowance) (s .args .m) (called s) (s .args .top) (stand (s .args .steps .now) false (best-of s)) to
   ends-so d to e = let s = begin d in subst (λ (l : List Member). Led (places s) (over-tree s) (wanted s) (s .args .allowance) (s .args .m) l (s .args .top) (stand (s .args .steps .now) false (best-of s)) to) (sym (cand-so d)) e
 
-  returns : lts.Need-returns (claims t) (walk-at t) walk.Post Inv-loop μ-loop
+  returns : lts.Need-returns (claims t) (descend-at t) descend.Post Inv-loop μ-loop
   returns c =
       let shut = c .before .before .before .before .before .before .before .before .before .before in
       let d = made (shut .before) in
@@ -351,13 +351,13 @@ module _ (t : ℕ) where
 
   -- ---- any other is opened
 
-  mul-open-at : lts.Need-mul-open-at (claims t) (walk-at t) walk.Post Inv-loop μ-loop
+  mul-open-at : lts.Need-mul-open-at (claims t) (descend-at t) descend.Post Inv-loop μ-loop
   mul-open-at c = omega (arith, top-few (made (c .before)))
 
-  array-read-open-at : lts.Need-array-read-open-at (claims t) (walk-at t) walk.Post Inv-loop μ-loop
+  array-read-open-at : lts.Need-array-read-open-at (claims t) (descend-at t) descend.Post Inv-loop μ-loop
   array-read-open-at c = top-few (made (c .before))
 
-  open-at-requires : lts.Need-open-at-requires (claims t) (walk-at t) walk.Post Inv-loop μ-loop
+  open-at-requires : lts.Need-open-at-requires (claims t) (descend-at t) descend.Post Inv-loop μ-loop
   open-at-requires c κs =
       let d = made (c .before) in
       let s = begin d in
@@ -385,13 +385,13 @@ module _ (t : ℕ) where
   some-lower : (c : Open) → 0 < turned c .next-high .result
   some-lower c = omega (arith, c .before .if1 .left)
 
-  next-high-requires-2 : lts.Need-next-high-requires-2 (claims t) (walk-at t) walk.Post Inv-loop μ-loop
+  next-high-requires-2 : lts.Need-next-high-requires-2 (claims t) (descend-at t) descend.Post Inv-loop μ-loop
   next-high-requires-2 c κs =
       let d = first c in
       let s = begin d in
       (few d, (omega (arith, next-so c, top-in (s .args .m) (s .args .top) (inside d)), some-lower c))
 
-  loop-holds : lts.Need-loop-holds (claims t) (walk-at t) walk.Post Inv-loop μ-loop
+  loop-holds : lts.Need-loop-holds (claims t) (descend-at t) descend.Post Inv-loop μ-loop
   loop-holds c =
       let o : Open = c .before in
       let d = first o in
@@ -401,15 +401,15 @@ module _ (t : ℕ) where
         (beside-self (s .args .top) (names d) (ends d), (eight d, subst AllRanged (boxes-of (levels-in s) (names d) (ends d) (s .args .m)) (boxes-ranged (r .passes) (wanted s) (s .args .m) (cand d) (r .long) (r .fair)))),
       )
 
-  add-here : lts.Need-add-here (claims t) (walk-at t) walk.Post Inv-loop μ-loop
+  add-here : lts.Need-add-here (claims t) (descend-at t) descend.Post Inv-loop μ-loop
   add-here c =
       let r = ready (opened (round c)) in
       omega (arith, in-few (r .passes) (r .opens) (round c .loop .k) (c .before .if2 .taken))
 
-  add-k : lts.Need-add-k (claims t) (walk-at t) walk.Post Inv-loop μ-loop
+  add-k : lts.Need-add-k (claims t) (descend-at t) descend.Post Inv-loop μ-loop
   add-k c = search needs
 
-  holds-at-requires : lts.Need-holds-at-requires (claims t) (walk-at t) walk.Post Inv-loop μ-loop
+  holds-at-requires : lts.Need-holds-at-requires (claims t) (descend-at t) descend.Post Inv-loop μ-loop
   holds-at-requires c κs =
       let o = opened (round c) in
       let s = begin (first o) in
@@ -430,7 +430,7 @@ module _ (t : ℕ) where
       c .holds-at .ensures (s .args .x .now) (s .args .y .now)
       ∙ ap₂ (λ (x : Thing) (kind : ℕ). holds (places s) (over-tree s) kind x) (is-entry (r .passes) (r .opens) (round (at c) .loop .k) (at c .before .if2 .taken)) (r .opens .kind)
 
-  take-step-requires : lts.Need-take-step-requires (claims t) (walk-at t) walk.Post Inv-loop μ-loop
+  take-step-requires : lts.Need-take-step-requires (claims t) (descend-at t) descend.Post Inv-loop μ-loop
   take-step-requires c κs = tt
 
   ended : (c : Open) (to : Stand Best) → let s = begin (first c) in
@@ -440,29 +440,29 @@ module _ (t : ℕ) where
       let s = begin (first c) in
       ends-so (first c) to (subst (λ (i : ℕ). Led (places s) (over-tree s) (wanted s) (s .args .allowance) (s .args .m) (cand (first c)) i (stand (s .args .steps .now) false (best-of s)) to) (top-so c) e)
 
-  returns-2 : lts.Need-returns-2 (claims t) (walk-at t) walk.Post Inv-loop μ-loop
+  returns-2 : lts.Need-returns-2 (claims t) (descend-at t) descend.Post Inv-loop μ-loop
   returns-2 c =
       let a : Asked = c .before .before .before .before in
       let l = round (at a) in
       let o = opened l in
       ended o _ (spends (ready o) _ _ (l .loop .inv .0) (at a .before .if2 .taken) (sym (held a) ∙ c .before .before .before .if3 .taken) (c .before .take-step .ensures .none (not-true _ (c .if4 .taken))))
 
-  mul-p : lts.Need-mul-p (claims t) (walk-at t) walk.Post Inv-loop μ-loop
+  mul-p : lts.Need-mul-p (claims t) (descend-at t) descend.Post Inv-loop μ-loop
   mul-p c =
       let e : Entry = c .before .before .before .before .before in
       let r = ready (opened (round e)) in
       omega (arith, in-few (r .passes) (r .opens) (round e .loop .k) (e .before .if2 .taken))
 
-  shared-slice-read-p : lts.Need-shared-slice-read-p (claims t) (walk-at t) walk.Post Inv-loop μ-loop
+  shared-slice-read-p : lts.Need-shared-slice-read-p (claims t) (descend-at t) descend.Post Inv-loop μ-loop
   shared-slice-read-p c =
       let e : Entry = c .before .before .before .before .before .before in
       let r = ready (opened (round e)) in
       in-list (r .passes) (r .opens) (round e .loop .k) (e .before .if2 .taken)
 
-  wide16-requires : lts.Need-wide16-requires (claims t) (walk-at t) walk.Post Inv-loop μ-loop
+  wide16-requires : lts.Need-wide16-requires (claims t) (descend-at t) descend.Post Inv-loop μ-loop
   wide16-requires c κs = tt
 
-  box-of-requires : lts.Need-box-of-requires (claims t) (walk-at t) walk.Post Inv-loop μ-loop
+  box-of-requires : lts.Need-box-of-requires (claims t) (descend-at t) descend.Post Inv-loop μ-loop
   box-of-requires c κs =
       let e : Entry = c .before .before .before .before .before .before .before in
       let o = opened (round e) in
@@ -485,7 +485,7 @@ module _ (t : ℕ) where
   abbrev sides-at : Loop → Sides
   sides-at l = sides (l .loop .wests) (l .loop .easts) (l .loop .souths) (l .loop .norths)
 
-  is-near-requires : lts.Need-is-near-requires (claims t) (walk-at t) walk.Post Inv-loop μ-loop
+  is-near-requires : lts.Need-is-near-requires (claims t) (descend-at t) descend.Post Inv-loop μ-loop
   is-near-requires c κs =
       let b : Boxed = c .before .before .before .before .before in
       let e : Entry = at (shown b) in
@@ -644,19 +644,19 @@ module _ (t : ℕ) where
   abbrev top-of : Come → ℕ
   top-of c = begin (first (opener c)) .args .top
 
-  put16-requires-2 : lts.Need-put16-requires-2 (claims t) (walk-at t) walk.Post Inv-loop μ-loop
+  put16-requires-2 : lts.Need-put16-requires-2 (claims t) (descend-at t) descend.Post Inv-loop μ-loop
   put16-requires-2 c κs = let d : Come = c .before .before in top-few (first (opener d))
 
-  put32-requires-5 : lts.Need-put32-requires-5 (claims t) (walk-at t) walk.Post Inv-loop μ-loop
+  put32-requires-5 : lts.Need-put32-requires-5 (claims t) (descend-at t) descend.Post Inv-loop μ-loop
   put32-requires-5 c κs = let d : Come = c .before .before .before .before .before in top-few (first (opener d))
 
-  put32-requires-6 : lts.Need-put32-requires-6 (claims t) (walk-at t) walk.Post Inv-loop μ-loop
+  put32-requires-6 : lts.Need-put32-requires-6 (claims t) (descend-at t) descend.Post Inv-loop μ-loop
   put32-requires-6 c κs = let d : Come = c .before .before .before .before .before .before .before .before in top-few (first (opener d))
 
-  put32-requires-7 : lts.Need-put32-requires-7 (claims t) (walk-at t) walk.Post Inv-loop μ-loop
+  put32-requires-7 : lts.Need-put32-requires-7 (claims t) (descend-at t) descend.Post Inv-loop μ-loop
   put32-requires-7 c κs = let d : Come = c .before .before .before .before .before .before .before .before .before .before .before in top-few (first (opener d))
 
-  put32-requires-8 : lts.Need-put32-requires-8 (claims t) (walk-at t) walk.Post Inv-loop μ-loop
+  put32-requires-8 : lts.Need-put32-requires-8 (claims t) (descend-at t) descend.Post Inv-loop μ-loop
   put32-requires-8 c κs = let d : Come = c .before .before .before .before .before .before .before .before .before .before .before .before .before .before in top-few (first (opener d))
 
   abbrev names-put : Put → List ℕ
@@ -719,7 +719,7 @@ module _ (t : ℕ) where
       (subst (λ (q : Sides). Kept d new q) (sym (ends-put-so c))
       (beside-put (top-of d) (l .loop .inv .1 .0) (number-read d) (box-read d), (eight-put (l .loop .names) (sides-at l) (l .loop .inv .1 .1 .0) (top-of d) (number-read d) (box-read d), subst AllRanged (ap (λ (q : List Member). boxesOf (take (s .args .m) q)) (sym (came-so d)) ∙ boxes-of lv new box (s .args .m)) ranged-next)))
 
-  take-groups-requires-2 : lts.Need-take-groups-requires-2 (claims t) (walk-at t) walk.Post Inv-loop μ-loop
+  take-groups-requires-2 : lts.Need-take-groups-requires-2 (claims t) (descend-at t) descend.Post Inv-loop μ-loop
   take-groups-requires-2 c κs =
       let p : Put = c .before .before .before .before .before .before .before .before .before in
       let d = come p in
@@ -743,7 +743,7 @@ module _ (t : ℕ) where
       let s = begin (first o) in
       subst (λ (q : List Member). Led (places s) (over-tree s) (wanted s) (s .args .allowance) (s .args .m) q (turned o .before .next-top .result) (stand (steps-now (measured d)) false (best-at (round (entered d)))) (after-groups c)) (put-so (putter c)) (c .take-groups2 .ensures)
 
-  returns-3 : lts.Need-returns-3 (claims t) (walk-at t) walk.Post Inv-loop μ-loop
+  returns-3 : lts.Need-returns-3 (claims t) (descend-at t) descend.Post Inv-loop μ-loop
   returns-3 c =
       let g : Grouped = c .before in
       let d = come (putter g) in
@@ -752,10 +752,10 @@ module _ (t : ℕ) where
       subst (λ (w : Bool). Led (places s) (over-tree s) (wanted s) (s .args .allowance) (s .args .m) (called s) (s .args .top) (stand (s .args .steps .now) false (best-of s)) (stand (last .0) w (bestAt (last .1 .0) (last .1 .1 .0) (last .1 .1 .1 .0)))) (c .if7 .taken)
       (stopped d (after-groups g) (led-groups g) (c .if7 .taken))
 
-  loop-less : lts.Need-loop-less (claims t) (walk-at t) walk.Post Inv-loop μ-loop
+  loop-less : lts.Need-loop-less (claims t) (descend-at t) descend.Post Inv-loop μ-loop
   loop-less c = let g : Grouped = c .before in fewer (entered (come (putter g)))
 
-  loop-again : lts.Need-loop-again (claims t) (walk-at t) walk.Post Inv-loop μ-loop
+  loop-again : lts.Need-loop-again (claims t) (descend-at t) descend.Post Inv-loop μ-loop
   loop-again c =
       let g : Grouped = c .before in
       (went-on (come (putter g)) (after-groups g) (led-groups g) (c .if7 .left), kept-put (putter g))
@@ -795,8 +795,8 @@ module _ (t : ℕ) where
           let s = begin (first o) in
           omega (arith, next-so o, lower-so o, top-back (s .args .m) (s .args .top) (omega (arith, h)), high-back (s .args .m) (s .args .top) (s .args .high) (omega (arith, h)), top-few (first o), high-so (first o))
 
-  walk-requires : lts.Need-walk-requires (claims t) (walk-at t) walk.Post Inv-loop μ-loop
-  walk-requires c κs =
+  descend-requires : lts.Need-descend-requires (claims t) (descend-at t) descend.Post Inv-loop μ-loop
+  descend-requires c κs =
       let d = comes-of c in
       let o = opener d in
       let s = begin (first o) in
@@ -805,40 +805,40 @@ module _ (t : ℕ) where
 
   abbrev after : Taken → Stand Best
   after c =
-      let last = c .walk .last .1 .1 .1 .1 .1 .1 .1 .1 .1 .1 .1 .1 .1 .1 .1 .1 .1 .1 .1 .1 .1 .1 .1 .1 .1 .1 .1 .1 .1 .1 in
-      stand (last .0) (c .walk .result) (bestAt (last .1 .0) (last .1 .1 .0) (last .1 .1 .1 .0))
+      let last = c .descend .last .1 .1 .1 .1 .1 .1 .1 .1 .1 .1 .1 .1 .1 .1 .1 .1 .1 .1 .1 .1 .1 .1 .1 .1 .1 .1 .1 .1 .1 .1 in
+      stand (last .0) (c .descend .result) (bestAt (last .1 .0) (last .1 .1 .0) (last .1 .1 .1 .0))
 
-  led-walk : (c : Taken) → LedNext (comes-of (c .before)) (after c)
-  led-walk c =
+  led-below : (c : Taken) → LedNext (comes-of (c .before)) (after c)
+  led-below c =
       let d = comes-of (c .before) in
       let o = opener d in
       let s = begin (first o) in
-      subst (λ (q : List Member). Led (places s) (over-tree s) (wanted s) (s .args .allowance) (s .args .m) q (turned o .before .next-top .result) (stand (steps-now (measured d)) false (best-at (round (entered d)))) (after c)) (sent-so (c .before)) (c .walk .ensures)
+      subst (λ (q : List Member). Led (places s) (over-tree s) (wanted s) (s .args .allowance) (s .args .m) q (turned o .before .next-top .result) (stand (steps-now (measured d)) false (best-at (round (entered d)))) (after c)) (sent-so (c .before)) (c .descend .ensures)
 
-  returns-4 : lts.Need-returns-4 (claims t) (walk-at t) walk.Post Inv-loop μ-loop
+  returns-4 : lts.Need-returns-4 (claims t) (descend-at t) descend.Post Inv-loop μ-loop
   returns-4 c =
       let w : Taken = c .before in
       let d = comes-of (w .before) in
       let s = begin (first (opener d)) in
-      let last = w .walk .last .1 .1 .1 .1 .1 .1 .1 .1 .1 .1 .1 .1 .1 .1 .1 .1 .1 .1 .1 .1 .1 .1 .1 .1 .1 .1 .1 .1 .1 .1 in
+      let last = w .descend .last .1 .1 .1 .1 .1 .1 .1 .1 .1 .1 .1 .1 .1 .1 .1 .1 .1 .1 .1 .1 .1 .1 .1 .1 .1 .1 .1 .1 .1 .1 in
       subst (λ (u : Bool). Led (places s) (over-tree s) (wanted s) (s .args .allowance) (s .args .m) (called s) (s .args .top) (stand (s .args .steps .now) false (best-of s)) (stand (last .0) u (bestAt (last .1 .0) (last .1 .1 .0) (last .1 .1 .1 .0)))) (c .if8 .taken)
-      (stopped d (after w) (led-walk w) (c .if8 .taken))
+      (stopped d (after w) (led-below w) (c .if8 .taken))
 
-  loop-less-2 : lts.Need-loop-less-2 (claims t) (walk-at t) walk.Post Inv-loop μ-loop
+  loop-less-2 : lts.Need-loop-less-2 (claims t) (descend-at t) descend.Post Inv-loop μ-loop
   loop-less-2 c = let w : Taken = c .before in fewer (entered (comes-of (w .before)))
 
-  loop-again-2 : lts.Need-loop-again-2 (claims t) (walk-at t) walk.Post Inv-loop μ-loop
+  loop-again-2 : lts.Need-loop-again-2 (claims t) (descend-at t) descend.Post Inv-loop μ-loop
   loop-again-2 c =
       let w : Taken = c .before in
       let d = comes-of (w .before) in
-      (went-on d (after w) (led-walk w) (c .if8 .left), round (entered d) .loop .inv .1)
+      (went-on d (after w) (led-below w) (c .if8 .left), round (entered d) .loop .inv .1)
 
   -- ---- a candidate that is dropped, and an entry that does not hold the kind
 
-  loop-less-3 : lts.Need-loop-less-3 (claims t) (walk-at t) walk.Post Inv-loop μ-loop
+  loop-less-3 : lts.Need-loop-less-3 (claims t) (descend-at t) descend.Post Inv-loop μ-loop
   loop-less-3 c = fewer (at (shown (boxed (c .before))))
 
-  loop-again-3 : lts.Need-loop-again-3 (claims t) (walk-at t) walk.Post Inv-loop μ-loop
+  loop-again-3 : lts.Need-loop-again-3 (claims t) (descend-at t) descend.Post Inv-loop μ-loop
   loop-again-3 c =
       let d : Measured = c .before in
       let e = at (shown (boxed d)) in
@@ -846,28 +846,28 @@ module _ (t : ℕ) where
       let beyond = far-so (best-at l) (far d) (sym (near-is d) ∙ c .if5 .left) in
       (drops (ready (opened l)) _ _ (l .loop .inv .0) (e .before .if2 .taken) (holding d) (counted d) (beyond .0) (beyond .1), l .loop .inv .1)
 
-  loop-less-4 : lts.Need-loop-less-4 (claims t) (walk-at t) walk.Post Inv-loop μ-loop
+  loop-less-4 : lts.Need-loop-less-4 (claims t) (descend-at t) descend.Post Inv-loop μ-loop
   loop-less-4 c = search needs
 
-  loop-again-4 : lts.Need-loop-again-4 (claims t) (walk-at t) walk.Post Inv-loop μ-loop
+  loop-again-4 : lts.Need-loop-again-4 (claims t) (descend-at t) descend.Post Inv-loop μ-loop
   loop-again-4 c =
       let a : Asked = c .before in
       let l = round (at a) in
       (skips (ready (opened l)) _ _ (l .loop .inv .0) (at a .before .if2 .taken) (sym (held a) ∙ c .if3 .left), l .loop .inv .1)
 
-  returns-5 : lts.Need-returns-5 (claims t) (walk-at t) walk.Post Inv-loop μ-loop
+  returns-5 : lts.Need-returns-5 (claims t) (descend-at t) descend.Post Inv-loop μ-loop
   returns-5 c =
       let l : Loop = c .before .before in
       let o = opened l in
       ended o _ (over (ready o) _ _ (l .loop .inv .0) (c .if2 .left))
 
-pub +walk-spec : {M : Type 1} → statement M
-+walk-spec =
-    close μ-walk λ t.
+pub +descend-spec : {M : Type 1} → statement M
++descend-spec =
+    close μ-descend λ t.
     lts.spec
     (claims t)
-    (walk-at t)
-    walk.Post
+    (descend-at t)
+    descend.Post
     Inv-loop
     μ-loop
     (put16-requires t)
@@ -903,7 +903,7 @@ pub +walk-spec : {M : Type 1} → statement M
     (returns-3 t)
     (loop-less t)
     (loop-again t)
-    (walk-requires t)
+    (descend-requires t)
     (returns-4 t)
     (loop-less-2 t)
     (loop-again-2 t)

@@ -10,8 +10,8 @@ use Rattle.tree.specs.Tree.{Tree}
 use Rattle.closest.specs.Group.{spread}
 use Rattle.closest.specs.Candidate.{member, topmost, groupOf, entriesOf}
 use Rattle.walks.specs.Allowance.{Stand}
-use Rattle.walk.specs.Members.{Member, boxesOf, thingsOf, Fair}
-use Rattle.walk.specs.State.{Near, leads}
+use Rattle.groups.specs.Members.{Member, boxesOf, thingsOf, Fair}
+use Rattle.groups.specs.Leads.{Near, leads}
 use Rattle.members.specs.declared.Best.{Best}
 
 -- a candidate that is opened at its topmost member: it is no group, and it is not dropped

@@ -14,7 +14,7 @@ use Rattle.closest.specs.Candidate.{number, member, topmost, boxesIn}
 use Rattle.closest.specs.Walk.{boxes}
 use Rattle.closest.proofs.TopLaws.{all-places}
 use Rattle.closest.proofs.DropLaws.{own-boxes}
-use Rattle.walk.specs.Members.{Member, memberOf, membersOf, Placed, nobody, boxesOf}
+use Rattle.groups.specs.Members.{Member, memberOf, membersOf, Placed, nobody, boxesOf}
 
 -- ---- lists
 

@@ -19,18 +19,18 @@ use Rattle.closest.specs.Group.{farthest, spread, diameter}
 use Rattle.closest.specs.Candidate.{number, member, topmost, groupOf, entry, entriesOf, boxesIn}
 use Rattle.closest.specs.Walk.{holds, boxes}
 use Rattle.closest.proofs.CandidateLaws.{group-is}
-use Rattle.walk.specs.Members.{Member, Placed, boxesOf, thingOf, thingsOf}
-use Rattle.walk.specs.Opening.{Led}
-use Rattle.walk.specs.State.{Near, leads}
+use Rattle.groups.specs.Members.{Member, Placed, boxesOf, thingOf, thingsOf}
+use Rattle.groups.specs.Opening.{Led}
+use Rattle.groups.specs.Leads.{Near, leads}
 use Rattle.members.specs.declared.Best.{Best}
-use Rattle.walk.specs.declared.Opening.{Opening}
-use Rattle.walk.proofs.Opens.{Last}
-use Rattle.walk.proofs.MemberLaws.{whole-spread}
-use Rattle.walk.proofs.OpenLaws.{placed}
-use Rattle.walk.proofs.RunLaws.{in-run}
-use Rattle.walk.proofs.StepLaws.{again-not, ended, turn-spent}
-use Rattle.walk.proofs.TurnLaws.{at-spent, at-far, at-whole, at-more}
-use Rattle.walk.proofs.NextLaws.{Ready, inside, lower, next, next-long, next-fair, next-things, next-spread, next-rises, comes, dropped-far}
+use Rattle.groups.specs.declared.Opening.{Opening}
+use Rattle.groups.proofs.Opens.{Last}
+use Rattle.groups.proofs.MemberLaws.{whole-spread}
+use Rattle.groups.proofs.OpenLaws.{placed}
+use Rattle.groups.proofs.RunLaws.{in-run}
+use Rattle.groups.proofs.StepLaws.{again-not, ended, turn-spent}
+use Rattle.groups.proofs.TurnLaws.{at-spent, at-far, at-whole, at-more}
+use Rattle.groups.proofs.NextLaws.{Ready, inside, lower, next, next-long, next-fair, next-things, next-spread, next-rises, comes, dropped-far}
 
 -- the best is the old one, or the group that it was offered
 improved-is : (P : Best → Type 0) (g : List ℕ) (d : ℕ) (b : Best) → P (record { known = true; squared = d; places = g }) → P b → P (improved g d b)

@@ -4,9 +4,9 @@ use mathlib.Core.Path.{_≡_}
 use Prim.Native.Nat.{ℕ}
 use borrow.Author.Tests.{eq-eqb, ne-eqb}
 use Rattle.kit.specs.Kit.{kinds}
-use Rattle.search.specs.declared.Found.{Found}
+use Rattle.found.specs.declared.Found.{Found}
 use Rattle.lines.specs.Text.{ascii}
-use Rattle.answer.specs.Answer.{foundLines, stoppedLines, refusedLines, answerLines}
+use Rattle.report.specs.Answer.{foundLines, stoppedLines, refusedLines, answerLines}
 
 module _ (f : Found) (want : ℕ) where
   pub of-found : f .code ≡ 0 → foundLines (f .squared) (f .steps) (kinds want) (f .places) ≡ answerLines f want

@@ -10,11 +10,11 @@ use Rattle.verdict.specs.Families.{familyOf}
 use Rattle.verdict.specs.declared.From.{From}
 use Rattle.verdict.specs.declared.From.the-variants.{Query, Table, Tree, Search, Room, Sheet, NoRefusal}
 use Rattle.kit.specs.Kit.{kinds}
-use Rattle.search.specs.declared.Found.{Found}
+use Rattle.found.specs.declared.Found.{Found}
 use Rattle.lines.specs.Text.{ascii, decimal}
 use Rattle.lines.proofs.NumberLaws.{decimal-length, width-most}
-use Rattle.answer.specs.Answer.{wordLine, numberLine, endLine, needLines, groupLines, measureLines, foundLines, stoppedLines, familyWord, refusedLines, answerLines}
-use Rattle.answer.specs.Distance.{rootOf}
+use Rattle.report.specs.Answer.{wordLine, numberLine, endLine, needLines, groupLines, measureLines, foundLines, stoppedLines, familyWord, refusedLines, answerLines}
+use Rattle.report.specs.Distance.{rootOf}
 
 number-most : (n : ℕ) → length (decimal n ++ (10 ∷ [])) ≤ 21
 number-most n = omega (arith, length-append (decimal n) (10 ∷ []), decimal-length n, width-most n)

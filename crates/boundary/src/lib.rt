@@ -1,9 +1,6 @@
 // The library for C: every call over numbers and slices. An answer of several words is written at the start of a lent array, and the
 // call gives how many words that is; where the array is shorter it gives 0 and does nothing.
 ghost use mathlib.Core.Path.{_≡_};
-ghost use mathlib.Core.Bool.{true};
-ghost use Prim.Native.Nat.{_+_, _≤_};
-ghost use lib.ListN.{length};
 ghost use Rattle.plane.specs.Plane.{measured};
 ghost use Rattle.plane.specs.Root.{Root};
 ghost use Rattle.verdict.specs.Families.{familyOf};
@@ -11,125 +8,14 @@ ghost use Rattle.verdict.specs.Rules.{verdict};
 ghost use Rattle.table.specs.Table.{table};
 ghost use Rattle.tree.specs.Rules.{checkRules};
 ghost use Rattle.tree.specs.Lent.{shape, sides, tree};
-ghost use Rattle.search.specs.Search.{searched};
+ghost use Rattle.found.specs.Search.{searched};
 ghost use Rattle.rows.specs.Sheet.{asked};
-ghost use Rattle.sheet.specs.Read.{reading, sheetOf, columnAfter};
-ghost use Rattle.print.specs.Puts.{Puts};
+ghost use Rattle.scan.specs.Read.{reading, sheetOf, columnAfter};
 ghost use Rattle.answer.specs.Lent.{laid, holding};
 ghost use Rattle.reply.specs.Reply.{printed};
-ghost use Rattle.boundary.specs.Words.{familyNumber, measuredWords, verdictWords, foundWords, sheetWords};
+ghost use Rattle.words.specs.Words.{familyNumber, measuredWords, verdictWords, foundWords, sheetWords};
 ghost use Rattle.boundary.specs.Kept.{given, buildLeaves, buildWords, columns, writeLeaves, writeWords};
-ghost use Rattle.boundary.specs.Lines.{limits, fit, foundOf, linesOf};
-
-// Words at a place of an answer; gives the place after them.
-fn put(answer: &mut [u64], at: usize, words: &[u64]) -> usize
-    requires { ⌜ at + length (now words) ≤ length (now answer) ⌝ }
-    ensures { λ r. ⌜ Puts (now (answer .entry)) at (now (words .entry)) r (now (answer .exit)) ⌝ }
-{
-    let mut i = 0;
-    while i < words.len() {
-        answer[at + i] = words[i];
-        i += 1;
-    }
-    at + i
-}
-
-// Words at the start of an answer; gives how many. Where the answer is shorter it gives 0 and changes nothing.
-fn lay(words: &[u64], answer: &mut [u64]) -> usize
-    ensures { λ r. ⌜ r ≡ laid (now (words .entry)) (now (answer .entry)) ⌝ }
-    ensures { λ _. ⌜ now (answer .exit) ≡ holding (now (words .entry)) (now (answer .entry)) ⌝ }
-{
-    if answer.len() < words.len() {
-        return 0;
-    }
-    put(answer, 0, words)
-}
-
-// The words of a search.
-fn found_words(f: search::Found) -> [u64; 13]
-    ensures { λ r. ⌜ r ≡ foundWords f ⌝ }
-{
-    let p = f.places;
-    [
-        f.code as u64,
-        f.at as u64,
-        p[0] as u64,
-        p[1] as u64,
-        p[2] as u64,
-        p[3] as u64,
-        p[4] as u64,
-        p[5] as u64,
-        p[6] as u64,
-        p[7] as u64,
-        f.squared,
-        f.steps as u64,
-        f.known as u64,
-    ]
-}
-
-// Is there a word for each limit, and none above its limit?
-fn fits(words: &[u64], limits: &[u64]) -> bool
-    ensures { λ r. ⌜ r ≡ fit (now (limits .entry)) (now (words .entry)) ⌝ }
-{
-    let mut i = 0;
-    while i < limits.len() {
-        if words.len() <= i {
-            return false;
-        }
-        if limits[i] < words[i] {
-            return false;
-        }
-        i += 1;
-    }
-    true
-}
-
-// Are they the words of a search?
-fn is_found(words: &[u64]) -> bool
-    ensures { λ r. ⌜ r ≡ fit limits (now (words .entry)) ⌝ }
-{
-    let limits = [
-        255,
-        18446744073709551615,
-        65535,
-        65535,
-        65535,
-        65535,
-        65535,
-        65535,
-        65535,
-        65535,
-        18446744073709551615,
-        4294967295,
-        1,
-    ];
-    fits(words, &limits)
-}
-
-// The search that the words are of.
-fn found_of(w: &[u64]) -> search::Found
-    requires { ⌜ fit limits (now w) ≡ true ⌝ }
-    ensures { λ r. ⌜ r ≡ foundOf (now (w .entry)) ⌝ }
-{
-    let places = [
-        w[2] as u16,
-        w[3] as u16,
-        w[4] as u16,
-        w[5] as u16,
-        w[6] as u16,
-        w[7] as u16,
-        w[8] as u16,
-        w[9] as u16,
-    ];
-    search::Found {
-        code: w[0] as u8,
-        at: w[1] as usize,
-        places,
-        squared: w[10],
-        steps: w[11] as u32,
-        known: w[12] == 1,
-    }
-}
+ghost use Rattle.words.specs.Lines.{linesOf};
 
 // The greatest whole number whose square is not above n.
 #[no_mangle]
@@ -167,7 +53,7 @@ pub extern "C" fn longhorbi_squared(ax: i32, ay: i32, bx: i32, by: i32, answer: 
     }
     let m = plane::squared(ax, ay, bx, by);
     let words = [m.code as u64, m.at as u64, m.squared];
-    lay(&words, answer)
+    words::lay(&words, answer)
 }
 
 // The check of a tree against its table, in 2 words: code, at.
@@ -195,7 +81,7 @@ pub extern "C" fn longhorbi_check(
     if answer.len() < 2 {
         return 0;
     }
-    let v = tree::check(
+    let v = inspect::check(
         x,
         y,
         kit,
@@ -212,7 +98,7 @@ pub extern "C" fn longhorbi_check(
         listed,
     );
     let words = [v.code as u64, v.at as u64];
-    lay(&words, answer)
+    words::lay(&words, answer)
 }
 
 // Builds the tree of a table in lent columns, in 4 words: code, at, nodes, listed.
@@ -254,7 +140,7 @@ pub extern "C" fn longhorbi_build(
         entries,
     );
     let words = [b.code as u64, b.at as u64, b.nodes as u64, b.listed as u64];
-    lay(&words, answer)
+    words::lay(&words, answer)
 }
 
 // The places that together hold a wanted kit and lie closest, in 13 words: code, at, eight places, squared, steps, known.
@@ -302,8 +188,8 @@ pub extern "C" fn longhorbi_search(
         want,
         allowance,
     );
-    let words = found_words(f);
-    lay(&words, answer)
+    let words = words::found_words(f);
+    words::lay(&words, answer)
 }
 
 // Writes the sheet of a table, a want and a budget at the start of a lent buffer, in 3 words: code, at, bytes.
@@ -326,7 +212,7 @@ pub extern "C" fn longhorbi_write(
     }
     let w = sheet::write(x, y, kit, want, budget, out);
     let words = [w.code as u64, w.at as u64, w.bytes as u64];
-    lay(&words, answer)
+    words::lay(&words, answer)
 }
 
 // Reads a sheet into lent columns, in 5 words: code, at, places, want, budget.
@@ -355,7 +241,7 @@ pub extern "C" fn longhorbi_read(
         s.want,
         s.budget as u64,
     ];
-    lay(&words, answer)
+    words::lay(&words, answer)
 }
 
 // The lines for the words of a search of a want, at the start of a lent buffer; gives how many bytes they are.
@@ -365,10 +251,10 @@ pub extern "C" fn longhorbi_lines(found: &[u64], want: u64, out: &mut [u8]) -> u
     ensures { λ r. ⌜ r ≡ laid (linesOf (now (found .entry)) want) (now (out .entry)) ⌝ }
     ensures { λ _. ⌜ now (out .exit) ≡ holding (linesOf (now (found .entry)) want) (now (out .entry)) ⌝ }
 {
-    if !is_found(found) {
+    if !words::is_found(found) {
         return 0;
     }
-    answer::lines(found_of(found), want, out)
+    answer::lines(words::found_of(found), want, out)
 }
 
 // What the program prints for its input, at the start of a lent buffer; gives how many bytes that is.

@@ -17,10 +17,10 @@ use Rattle.tree.specs.Rules.{Room}
 use Rattle.tree.specs.declared.Lengths.{Lengths}
 use Rattle.verdict.specs.Rules.{Holds, verdict, says}
 use Rattle.verdict.proofs.RuleLaws.{breaks-at, holds-all}
-use Rattle.build.specs.Levels.{nodes, listed, levelAt, startAt, countAt}
-use Rattle.build.specs.Built.{boxAt, kitAt, entriesOf, column, built}
+use Rattle.levels.specs.Levels.{nodes, listed, levelAt, startAt, countAt}
+use Rattle.levels.specs.Built.{boxAt, kitAt, entriesOf, column, built}
 use Rattle.build.specs.Room.{rule41, over, writtenOver, afterwards}
-use Rattle.build.proofs.LaidLaws.{length-entries}
+use Rattle.levels.proofs.LaidLaws.{length-entries}
 
 -- a valid table can be put in order
 pub plotted : {t : Table} → Valid t → Plotted (t .x) (t .y)

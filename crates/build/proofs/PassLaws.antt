@@ -17,14 +17,14 @@ use Rattle.tree.proofs.NodeLaws.{run-says}
 use Rattle.tree.proofs.TreeLaws.{Meets, of-meets}
 use Rattle.verdict.specs.Rules.{AllHold, verdict, says}
 use Rattle.verdict.proofs.RuleLaws.{all-hold, goes-on}
-use Rattle.build.specs.Levels.{nodes, listed, levelAt}
-use Rattle.build.specs.Built.{valueAt, boxAt, built}
+use Rattle.levels.specs.Levels.{nodes, listed, levelAt}
+use Rattle.levels.specs.Built.{valueAt, boxAt, built}
 use Rattle.build.specs.Room.{writtenOver}
-use Rattle.build.specs.Laid.{Laid}
-use Rattle.build.proofs.LevelLaws.{height-high, over-zero, none-of, nodes-few}
-use Rattle.build.proofs.RankLaws.{ranked, is-node, level-is, count-low}
-use Rattle.build.proofs.ChainLaws.{root-start, next-start, last-end}
-use Rattle.build.proofs.LaidLaws.{tab-long, says-tab, laid-of, Entry, ofPlace, ofNode, entry-at, run-value}
+use Rattle.levels.specs.Laid.{Laid}
+use Rattle.levels.proofs.LevelLaws.{height-high, over-zero, none-of, nodes-few}
+use Rattle.levels.proofs.RankLaws.{ranked, is-node, level-is, count-low}
+use Rattle.levels.proofs.ChainLaws.{root-start, next-start, last-end}
+use Rattle.levels.proofs.LaidLaws.{tab-long, says-tab, laid-of, Entry, ofPlace, ofNode, entry-at, run-value}
 
 module _ (t : Table) (few : places t ≤ 4096) (before : Tree) where
   abbrev n : ℕ

@@ -9,8 +9,8 @@ use Rattle.tree.specs.Tree.{Tree}
 use Rattle.tree.specs.Rules.{Room, decRoom}
 use Rattle.tree.specs.declared.Lengths.{Lengths}
 use Rattle.verdict.specs.Rules.{Rule}
-use Rattle.build.specs.Levels.{nodes, listed}
-use Rattle.build.specs.Built.{built}
+use Rattle.levels.specs.Levels.{nodes, listed}
+use Rattle.levels.specs.Built.{built}
 
 -- 41: no lent column is too short for the builder
 abbrev pub rule41 : Table → Lengths → Rule

@@ -4,11 +4,5 @@ pub mod NumberLaws
 pub mod FormLaws
 pub mod LineLaws
 pub mod PartLaws
-pub mod CutLaws
-pub mod ValueLaws
-pub mod ParseLaws
-pub mod SignedLaws
-pub mod ReadLaws
-pub mod KnownLaws
 pub mod CodeLaws
 pub mod Soundings

@@ -3,4 +3,3 @@ pub mod Text
 pub mod Form
 pub mod Line
 pub mod Part
-pub mod Readers

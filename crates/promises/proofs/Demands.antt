@@ -19,20 +19,20 @@ use Rattle.tree.specs.Tree.{Tree}
 use Rattle.tree.specs.Rules.{checkRules}
 use Rattle.tree.specs.declared.Lengths.{Lengths}
 use Rattle.tree.proofs.TreeLaws.{Meets, meets-of, of-meets}
-use Rattle.build.specs.Built.{built}
+use Rattle.levels.specs.Built.{built}
 use Rattle.build.specs.Room.{buildRules, writtenOver}
 use Rattle.build.proofs.PassLaws.{built-verdict}
 use Rattle.closest.specs.Group.{Covers, diameter}
-use Rattle.search.specs.Search.{searchRules, refused, searched}
-use Rattle.search.specs.declared.Found.{Found}
+use Rattle.found.specs.Search.{searchRules, refused, searched}
+use Rattle.found.specs.declared.Found.{Found}
 use Rattle.search.proofs.DemandLaws.{diameter-le, code-none}
 use Rattle.lines.specs.Part.{Outcome, accepted}
 use Rattle.rows.specs.Sheet.{Held, Writable, sheetBytes, readSheet, asked}
 use Rattle.rows.proofs.SizeLaws.{bytes-enough}
 use Rattle.sheet.specs.Write.{writeRules}
-use Rattle.sheet.specs.Read.{reading, roomIn, sheetOf}
-use Rattle.answer.specs.Distance.{rootOf}
-use Rattle.answer.proofs.RootLaws.{root-of}
+use Rattle.scan.specs.Read.{reading, roomIn, sheetOf}
+use Rattle.report.specs.Distance.{rootOf}
+use Rattle.report.proofs.RootLaws.{root-of}
 use Rattle.reply.specs.Reply.{printed}
 use Rattle.promises.specs.Reports.{Reports, codesOf}
 use Rattle.promises.specs.Answers.{between, Closest, NoGroup, stepsOf, knownAfter, spent, Ended, Ends, isNone, isSpent, isFound}

@@ -24,10 +24,10 @@ use Rattle.closest.specs.Walk.{wholeWalk, begins}
 use Rattle.closest.proofs.AnswerLaws.{none-exactly}
 use Rattle.walk.specs.State.{stateOf}
 use Rattle.groups.proofs.EntryLaws.{meets}
-use Rattle.search.specs.Search.{searchRules, refused, said, searched}
-use Rattle.search.proofs.SearchLaws.{sound-of, searched-fault}
+use Rattle.found.specs.Search.{searchRules, refused, said, searched}
+use Rattle.found.proofs.SearchLaws.{sound-of, searched-fault}
 use Rattle.search.proofs.DemandLaws.{gives-none, gives-spent, gives-found}
-use Rattle.search.specs.declared.Found.{Found}
+use Rattle.found.specs.declared.Found.{Found}
 use Rattle.promises.specs.Reports.{codesOf}
 use Rattle.promises.specs.Answers.{Closest, NoGroup, walkOf, stepsOf, knownAfter, spent, found, Ended, Ends, isNone, isSpent, isFound}
 use Rattle.promises.proofs.ReportLaws.{codes, member-le, member-more, member-after}

@@ -9,12 +9,12 @@ use lib.ListN.{length}
 use Rattle.kit.specs.Kit.{kinds}
 use Rattle.table.specs.Table.{Table, places}
 use Rattle.tree.specs.Tree.{Tree}
-use Rattle.build.specs.Built.{built}
+use Rattle.levels.specs.Built.{built}
 use Rattle.closest.proofs.AnswerLaws.{answer-unique}
-use Rattle.search.specs.declared.Found.{Found}
+use Rattle.found.specs.declared.Found.{Found}
 use Rattle.lines.specs.Part.{Outcome, fault, accepted}
 use Rattle.rows.specs.Sheet.{Held, readSheet}
-use Rattle.answer.specs.Answer.{refusedLines, answerLines}
+use Rattle.report.specs.Answer.{refusedLines, answerLines}
 use Rattle.promises.specs.Answers.{Closest, stepsOf, knownAfter, found, Ends, isNone, isSpent, isFound}
 use Rattle.promises.specs.Sheets.{IsSheet, ReadsAs, noSheet, noRoom, aSheet}
 use Rattle.promises.specs.Prints.{FewKinds, Answers, noKind, manyKinds, printsNone, printsSpent, printsFound, Prints, tooLong, notRead, wasRead}

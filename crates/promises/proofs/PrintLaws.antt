@@ -12,20 +12,20 @@ use Rattle.verdict.proofs.RuleLaws.{breaks-at, holds-on}
 use Rattle.kit.specs.Kit.{kinds, padded}
 use Rattle.table.specs.Table.{Table, Valid}
 use Rattle.tree.specs.Tree.{Tree}
-use Rattle.build.specs.Built.{built}
+use Rattle.levels.specs.Built.{built}
 use Rattle.closest.specs.Group.{diameter}
-use Rattle.search.specs.Search.{rule1, rule2, searchRules, refused, searched}
-use Rattle.search.specs.declared.Found.{Found}
-use Rattle.search.proofs.SearchLaws.{searched-fault}
+use Rattle.found.specs.Search.{rule1, rule2, searchRules, refused, searched}
+use Rattle.found.specs.declared.Found.{Found}
+use Rattle.found.proofs.SearchLaws.{searched-fault}
 use Rattle.lines.specs.Text.{ascii}
 use Rattle.lines.specs.Part.{Outcome, fault, accepted}
 use Rattle.rows.specs.Sheet.{Held, readSheet}
 use Rattle.sheet.proofs.ReadingLaws.{sheet-codes}
-use Rattle.answer.specs.Answer.{groupLines, measureLines, wordLine, endLine, needLines, foundLines, stoppedLines, refusedLines, answerLines}
+use Rattle.report.specs.Answer.{groupLines, measureLines, wordLine, endLine, needLines, foundLines, stoppedLines, refusedLines, answerLines}
 use Rattle.answer.proofs.AnswerLaws.{of-found, of-none, of-spent, of-refused}
 use Rattle.reply.specs.Reply.{printedFor, printed}
 use Rattle.reply.proofs.ReplyLaws.{printed-long, printed-sheet}
-use Rattle.reply.proofs.BuiltLaws.{built-sound}
+use Rattle.own.proofs.BuiltLaws.{built-sound}
 use Rattle.promises.specs.Answers.{spent, found, Ends, isNone, isSpent, isFound, knownAfter, stepsOf}
 use Rattle.promises.specs.Prints.{FewKinds, Answers, noKind, manyKinds, printsNone, printsSpent, printsFound, Prints, tooLong, notRead, wasRead}
 use Rattle.promises.proofs.EndLaws.{ends}

@@ -13,7 +13,7 @@ use Rattle.table.specs.Table.{places, tableRules, Valid}
 use Rattle.lines.specs.Part.{Outcome, fault, accepted}
 use Rattle.rows.specs.Sheet.{Held, sheetBytes, readSheet}
 use Rattle.rows.proofs.SheetLaws.{read-written, written-read}
-use Rattle.sheet.specs.Read.{within}
+use Rattle.scan.specs.Read.{within}
 use Rattle.sheet.specs.Write.{rule54, writeRules}
 use Rattle.sheet.proofs.ReadingLaws.{sheet-codes}
 use Rattle.sheet.proofs.WriteLaws.{too-short, long-enough}

@@ -26,9 +26,9 @@ use Rattle.walks.specs.Walk.{final, chain, dropped, walk}
 use Rattle.closest.specs.Group.{farthest, spread, diameter}
 use Rattle.closest.specs.Candidate.{entriesOf, lead, topmost, levels, groupOf, replaced, opened, boxesIn, tooFar}
 use Rattle.closest.specs.Walk.{begins}
-use Rattle.search.specs.Search.{refused, outcome, searched}
-use Rattle.search.specs.declared.Found.{Found}
-use Rattle.answer.specs.Distance.{rootIn, rootOf}
+use Rattle.found.specs.Search.{refused, outcome, searched}
+use Rattle.found.specs.declared.Found.{Found}
+use Rattle.report.specs.Distance.{rootIn, rootOf}
 
 -- harbour H
 abbrev pub harbour : Table

@@ -17,7 +17,7 @@ use Rattle.sheet.specs.Write as write-specs
 use Rattle.plane.proofs.squared.Reads as squared
 use Rattle.plane.proofs.root.Reads as root
 use Rattle.verdict.proofs.family.Reads as family
-use Rattle.tree.proofs.check.Reads as check
+use Rattle.inspect.proofs.check.Reads as check
 use Rattle.build.proofs.build.Reads as build
 use Rattle.search.proofs.search.Reads as search
 use Rattle.sheet.proofs.write.Reads as write

@@ -13,9 +13,9 @@ use ghost.Atoms.{Atoms, sem}
 use contract.Monad.{Fun, fact, fact-mono}
 use denote.Ref.{RefT}
 use denote.Triple.Clauses.{ensured, lasts}
-use Rattle.sheet.specs.declared.Reader.{Reader}
-use Rattle.sheet.proofs.new as new
-use Rattle.sheet.proofs.moved as moved
+use Rattle.scan.specs.declared.Reader.{Reader}
+use Rattle.scan.proofs.new as new
+use Rattle.scan.proofs.moved as moved
 
 -- a reader of src s that stands at n
 abbrev pub reader : RefT (List ℕ) → ℕ → Reader

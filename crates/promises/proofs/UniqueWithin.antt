@@ -2,7 +2,7 @@
 -- `Post` is the contract as the toolchain reads it from the source. Assumes nothing.
 use mathlib.Core.Path.{_≡_, refl, sym, ap, ap₂, _∙_}
 use mathlib.Core.Bool.{Bool, true, false}
-use mathlib.Core.List.{List}
+use mathlib.Core.List.{List, []}
 use Prim.Native.Nat.{ℕ, _≤_}
 use native.Mathlib.Omega.{arith}
 use lib.IntN.{ℤ, pos}
@@ -10,7 +10,7 @@ use lib.ListN.{length, drop, length-drop}
 use Rattle.tree.specs.Lent.{Decides}
 use Rattle.lines.specs.Form.{word, natural, coordinate, bits}
 use Rattle.lines.specs.Line.{Got, refused, got, readLine}
-use Rattle.lines.specs.Readers.{Read}
+use Rattle.readers.specs.Readers.{Read}
 use Rattle.plane.proofs.is_outside.Reads as is-outside
 use Rattle.plane.proofs.is_off.Reads as is-off
 use Rattle.plane.proofs.apart_of.Reads as apart-of
@@ -20,20 +20,25 @@ use Rattle.kit.proofs.holds_all.Reads as holds-all
 use Rattle.kit.proofs.count_kinds.Reads as count-kinds
 use Rattle.kit.proofs.list_kinds.Reads as list-kinds
 use Rattle.table.proofs.check.Reads as check-table
-use Rattle.order.proofs.write_order.Reads as write-order
+use Rattle.arrange.proofs.write_order.Reads as write-order
 use Rattle.tree.proofs.wide8.Reads as wide8
 use Rattle.tree.proofs.wide16.Reads as wide16
 use Rattle.tree.proofs.has_room.Reads as has-room
 use Rattle.tree.proofs.box_at.Reads as box-at
 use Rattle.tree.proofs.run_box.Reads as run-box
 use Rattle.tree.proofs.run_kit.Reads as run-kit
+use Rattle.shapes.proofs.counted.Reads as counted
+use Rattle.shapes.proofs.runs.Reads as runs
+use Rattle.shapes.proofs.moved.Reads as moved
+use Rattle.shapes.proofs.names.Reads as names
+use Rattle.marks.proofs.distinct.Reads as distinct
 use Rattle.walk.proofs.walk_all.Reads as walk-all
-use Rattle.search.proofs.refuse.Reads as refuse
+use Rattle.found.proofs.refuse.Reads as refuse
 use Rattle.search.proofs.search_over.Reads as search-over
-use Rattle.lines.proofs.line_number.Reads as line-number
-use Rattle.lines.proofs.line_bits.Reads as line-bits
-use Rattle.lines.proofs.line_coordinate.Reads as line-coordinate
-use Rattle.lines.proofs.line_word.Reads as line-word
+use Rattle.readers.proofs.line_number.Reads as line-number
+use Rattle.readers.proofs.line_bits.Reads as line-bits
+use Rattle.readers.proofs.line_coordinate.Reads as line-coordinate
+use Rattle.readers.proofs.line_word.Reads as line-word
 use Rattle.print.proofs.put.Reads as put
 use Rattle.print.proofs.put_decimal.Reads as put-decimal
 use Rattle.print.proofs.put_hex.Reads as put-hex
@@ -128,6 +133,23 @@ run-box-settled κs a r r′ b b′ h k = (h ∙ sym k, refl)
 -- the kit word of a run
 pub run-kit-settled : Settles nothing run-kit.Post
 run-kit-settled κs a r r′ b b′ h k = (h ∙ sym k, refl)
+
+-- the rules 21 to 24, each for itself
+pub counted-settled : Settles nothing counted.Post
+counted-settled κs a r r′ b b′ h k = (h ∙ sym k, refl)
+
+pub runs-settled : Settles nothing runs.Post
+runs-settled κs a r r′ b b′ h k = (h [] ∙ sym (k []), refl)
+
+pub names-settled : Settles nothing names.Post
+names-settled κs a r r′ b b′ h k = (h ∙ sym k, refl)
+
+pub distinct-settled : Settles nothing distinct.Post
+distinct-settled κs a r r′ b b′ h k = (h ∙ sym k, refl)
+
+-- the run that the next entry stands in
+pub moved-settled : Settles nothing moved.Post
+moved-settled κs a r r′ b b′ h k = (h ∙ sym k, refl)
 
 -- the whole walk
 pub walk-all-settled : Settles nothing walk-all.Post

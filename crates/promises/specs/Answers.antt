@@ -16,8 +16,8 @@ use Rattle.walks.specs.Order.{before}
 use Rattle.walks.specs.Walk.{final}
 use Rattle.closest.specs.Group.{Covers, diameter}
 use Rattle.closest.specs.Walk.{wholeWalk, begins}
-use Rattle.search.specs.Search.{refused}
-use Rattle.search.specs.declared.Found.{Found}
+use Rattle.found.specs.Search.{refused}
+use Rattle.found.specs.declared.Found.{Found}
 
 -- the squared distance of two places
 abbrev pub between : Table → ℕ → ℕ → ℕ

@@ -5,12 +5,12 @@ use mathlib.Core.List.{List}
 use Prim.Native.Nat.{ℕ, _≤_, _<_}
 use lib.ListN.{length}
 use Rattle.kit.specs.Kit.{kinds}
-use Rattle.build.specs.Built.{built}
+use Rattle.levels.specs.Built.{built}
 use Rattle.closest.specs.Group.{diameter}
 use Rattle.lines.specs.Text.{ascii}
 use Rattle.lines.specs.Part.{fault}
 use Rattle.rows.specs.Sheet.{Held, readSheet}
-use Rattle.answer.specs.Answer.{foundLines, stoppedLines, refusedLines}
+use Rattle.report.specs.Answer.{foundLines, stoppedLines, refusedLines}
 use Rattle.promises.specs.Answers.{Closest, NoGroup, stepsOf}
 use Rattle.promises.specs.Sheets.{IsSheet, NoSheet}
 

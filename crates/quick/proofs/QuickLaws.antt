@@ -16,8 +16,8 @@ use Rattle.lines.specs.Text.{NoZero, minus}
 use Rattle.lines.specs.Form.{Form, natural, coordinate}
 use Rattle.lines.specs.Line.{Keyed, fair, got, readLine, lineText}
 use Rattle.lines.proofs.FormLaws.{Sound, number-form, form-number}
-use Rattle.lines.proofs.SignedLaws.{minus-good, plain-good, minus-fits}
-use Rattle.lines.proofs.ParseLaws.{Sofar, led-empty}
+use Rattle.readers.proofs.SignedLaws.{minus-good, plain-good, minus-fits}
+use Rattle.readers.proofs.ParseLaws.{Sofar, led-empty}
 use Rattle.lines.proofs.PartLaws.{lawful-line}
 use Rattle.quick.specs.declared.NumberRun.{NumberRun}
 use Rattle.quick.specs.declared.CoordinateRun.{CoordinateRun}

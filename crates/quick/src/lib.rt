@@ -54,7 +54,7 @@ fn number_to_feed(t: &[u8], most: u64) -> NumberRun
         let c = t[i];
         if c == b'\n' {
             return NumberRun {
-                ok: lines::led(&t[..i]),
+                ok: readers::led(&t[..i]),
                 count: i + 1,
                 value: a,
             };
@@ -65,7 +65,7 @@ fn number_to_feed(t: &[u8], most: u64) -> NumberRun
         if b'9' < c {
             return no_number();
         }
-        a = a * 10 + lines::wide(c - b'0');
+        a = a * 10 + readers::wide(c - b'0');
         if most < a {
             return no_number();
         }
@@ -127,7 +127,7 @@ fn bits_to_feed(t: &[u8]) -> NumberRun
     if t[16] != b'\n' {
         return no_number();
     }
-    let n = lines::parse_bits(&t[..16]);
+    let n = readers::parse_bits(&t[..16]);
     NumberRun {
         ok: n.ok,
         count: 17,
@@ -140,7 +140,7 @@ pub fn quick_number(t: &[u8], key: &[u8], most: u64) -> NumberRun
     requires { ⌜ T (fair (now key)) × (most ≤ 4294967295) ⌝ }
     ensures { λ r. ⌜ (r .ok ≡ true → ReadsWell (now (key .entry)) (natural most) (now (t .entry)) (r .count) (r .value)) ⌝ }
 {
-    if !lines::begins(t, key) {
+    if !readers::begins(t, key) {
         return no_number();
     }
     let n = key.len();
@@ -157,7 +157,7 @@ pub fn quick_bits(t: &[u8], key: &[u8]) -> NumberRun
     requires { ⌜ T (fair (now key)) ⌝ }
     ensures { λ r. ⌜ (r .ok ≡ true → ReadsWell (now (key .entry)) bits (now (t .entry)) (r .count) (r .value)) ⌝ }
 {
-    if !lines::begins(t, key) {
+    if !readers::begins(t, key) {
         return no_number();
     }
     let n = key.len();
@@ -174,7 +174,7 @@ pub fn quick_coordinate(t: &[u8], key: &[u8]) -> CoordinateRun
     requires { ⌜ T (fair (now key)) ⌝ }
     ensures { λ r. ⌜ (r .ok ≡ true → ReadsWell (now (key .entry)) (coordinate 1000000) (now (t .entry)) (r .count) (r .value)) ⌝ }
 {
-    if !lines::begins(t, key) {
+    if !readers::begins(t, key) {
         return no_coordinate();
     }
     let n = key.len();

@@ -1,3 +1,2 @@
 -- Laws of the program's answer.
-pub mod BuiltLaws
 pub mod ReplyLaws

@@ -10,17 +10,17 @@ use lib.ListN.{length, take, drop, length-append}
 use lib.Seq.{take-at}
 use Rattle.table.specs.Table.{Table, table, places, Valid}
 use Rattle.table.proofs.TableLaws.{valid-even}
-use Rattle.build.specs.Built.{built}
-use Rattle.search.specs.Search.{refused, searched}
-use Rattle.search.specs.declared.Found.{Found}
+use Rattle.levels.specs.Built.{built}
+use Rattle.found.specs.Search.{refused, searched}
+use Rattle.found.specs.declared.Found.{Found}
 use Rattle.lines.specs.Part.{Outcome, fault, accepted}
 use Rattle.rows.specs.Sheet.{Held, readSheet}
 use Rattle.rows.proofs.SheetLaws.{written-read}
-use Rattle.sheet.specs.declared.Sheet.{Sheet}
-use Rattle.sheet.specs.Lent.{over}
-use Rattle.sheet.specs.Read.{sheetOf, columnTaken}
+use Rattle.scan.specs.declared.Sheet.{Sheet}
+use Rattle.scan.specs.Lent.{over}
+use Rattle.scan.specs.Read.{sheetOf, columnTaken}
 use Rattle.sheet.proofs.ReadingLaws.{is-accepted}
-use Rattle.answer.specs.Answer.{answerLines}
+use Rattle.report.specs.Answer.{answerLines}
 use Rattle.reply.specs.Reply.{most, printedFor, printed}
 
 pub printed-long : (s : List ℕ) → most < length s → answerLines (refused 55 0) 0 ≡ printed s

@@ -4,11 +4,11 @@ use Prim.Native.Nat.{ℕ}
 use mathlib.Core.List.{List}
 use native.Mathlib.Decide.{decLe}
 use lib.ListN.{length}
-use Rattle.build.specs.Built.{built}
-use Rattle.search.specs.Search.{refused, searched}
+use Rattle.levels.specs.Built.{built}
+use Rattle.found.specs.Search.{refused, searched}
 use Rattle.lines.specs.Part.{Outcome, fault, accepted}
 use Rattle.rows.specs.Sheet.{Held, readSheet}
-use Rattle.answer.specs.Answer.{answerLines}
+use Rattle.report.specs.Answer.{answerLines}
 
 -- the most bytes of an input
 abbrev pub most : ℕ

@@ -1,4 +1,3 @@
--- What is cited of the lines of a place sheet.
+-- The place sheet.
 pub mod Sheet
 pub mod Pieces
-pub mod Parts

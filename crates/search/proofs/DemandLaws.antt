@@ -24,9 +24,9 @@ use Rattle.closest.specs.Walk.{wholeWalk, begins, standsAt}
 use Rattle.closest.proofs.AnswerLaws.{walk-answers, none-exactly}
 use Rattle.walk.specs.State.{stateOf}
 use Rattle.groups.proofs.EntryLaws.{meets}
-use Rattle.search.specs.Search.{searchRules, refused, said, outcome, searched}
-use Rattle.search.specs.declared.Found.{Found}
-use Rattle.search.proofs.SearchLaws.{Sound, sound-of, outcome-spent, outcome-found, searched-none, searched-walk}
+use Rattle.found.specs.Search.{searchRules, refused, said, outcome, searched}
+use Rattle.found.specs.declared.Found.{Found}
+use Rattle.found.proofs.SearchLaws.{Sound, sound-of, outcome-spent, outcome-found, searched-none, searched-walk}
 
 -- 33 cannot be met: no group over a sound table is wider
 module _ {t : Table} (v : Valid t) where

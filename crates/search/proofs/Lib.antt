@@ -1,4 +1,2 @@
--- Laws of the search.
-pub mod SearchLaws
+-- The demands on a search.
 pub mod DemandLaws
-pub mod Soundings

@@ -1,53 +1,10 @@
 // The search: the checks in order, then the walk.
 ghost use mathlib.Core.Path.{_≡_};
-ghost use Prim.Native.Nat.{_≤_};
-ghost use lib.ListN.{length};
-ghost use Rattle.kit.specs.Kit.{kinds};
-ghost use Rattle.table.specs.Table.{Table, table};
-ghost use Rattle.tree.specs.Tree.{Shape, Sides};
-ghost use Rattle.closest.specs.Walk.{begins};
+ghost use Rattle.table.specs.Table.{table};
 ghost use Rattle.tree.specs.Lent.{shape, sides, tree};
 ghost use Rattle.verdict.specs.Rules.{verdict};
 ghost use Rattle.groups.specs.Members.{Passes};
-ghost use Rattle.search.specs.Search.{refused, outcome, queryRules, searchRules, searched};
-
-// What a search gives.
-pub struct Found {
-    pub code: u8,
-    pub at: usize,
-    pub places: [u16; 8],
-    pub squared: u64,
-    pub steps: u32,
-    pub known: bool,
-}
-
-// Internal: a refused search.
-pub fn refuse(code: u8, at: usize) -> Found
-    ensures { λ r. ⌜ r ≡ refused code at ⌝ }
-{
-    Found {
-        code,
-        at,
-        places: [0u16; 8],
-        squared: 0,
-        steps: 0,
-        known: false,
-    }
-}
-
-// What is refused of a want.
-fn want_fault(want: u64) -> verdict::Verdict
-    ensures { λ r. ⌜ r ≡ verdict (queryRules want) ⌝ }
-{
-    let many = kit::count_kinds(want);
-    if many < 1 {
-        return verdict::Verdict { code: 1, at: 0 };
-    }
-    if 8 < many {
-        return verdict::Verdict { code: 2, at: 0 };
-    }
-    verdict::Verdict { code: 0, at: 0 }
-}
+ghost use Rattle.found.specs.Search.{searchRules, searched};
 
 // What is refused before the walk: the want, then the table, then the tree.
 fn fault(
@@ -69,11 +26,11 @@ fn fault(
 ) -> verdict::Verdict
     ensures { λ r. ⌜ r ≡ verdict (searchRules (table (now (x .entry)) (now (y .entry)) (now (kit .entry))) (tree (shape nodes listed (now (level .entry)) (now (start .entry)) (now (count .entry)) (now (entries .entry))) (sides (now («x_lo» .entry)) (now («x_hi» .entry)) (now («y_lo» .entry)) (now («y_hi» .entry))) (now (kits .entry))) want) ⌝ }
 {
-    let w = want_fault(want);
+    let w = found::want_fault(want);
     if w.code != 0 {
         return w;
     }
-    tree::check(
+    inspect::check(
         x,
         y,
         kit,
@@ -89,46 +46,6 @@ fn fault(
         nodes,
         listed,
     )
-}
-
-// Does the root hold every wanted kind?
-fn root_holds(kits: &[u64], nodes: usize, want: u64) -> bool
-    requires { ⌜ nodes ≤ length (now kits) ⌝ }
-    ensures { λ r. ⌜ ((t : Table) (s : Shape) (b : Sides) → s .nodes ≡ nodes → r ≡ begins t (tree s b (now (kits .entry))) (kinds want)) ⌝ }
-{
-    if nodes == 0 {
-        return false;
-    }
-    kit::holds_all(kits[0], want)
-}
-
-// The answer that a walk ends with.
-fn outcome_of(s: walk::State) -> Found
-    ensures { λ r. ⌜ r ≡ outcome s ⌝ }
-{
-    let best = s.best;
-    let places = best.places;
-    if s.spent {
-        return Found {
-            code: 32,
-            at: 0,
-            places,
-            squared: best.squared,
-            steps: s.steps,
-            known: best.known,
-        };
-    }
-    if 8000000000000 < best.squared {
-        return refuse(33, 0);
-    }
-    Found {
-        code: 0,
-        at: 0,
-        places,
-        squared: best.squared,
-        steps: s.steps,
-        known: best.known,
-    }
 }
 
 // Internal: the search over a table and a tree that pass the check.
@@ -149,16 +66,16 @@ pub fn search_over(
     listed: usize,
     want: u64,
     allowance: u32,
-) -> Found
+) -> found::Found
     requires { ⌜ Passes (table (now x) (now y) (now kit)) (tree (shape nodes listed (now level) (now start) (now count) (now entries)) (sides (now «x_lo») (now «x_hi») (now «y_lo») (now «y_hi»)) (now kits)) ⌝ }
     ensures { λ r. ⌜ r ≡ searched (table (now (x .entry)) (now (y .entry)) (now (kit .entry))) (tree (shape nodes listed (now (level .entry)) (now (start .entry)) (now (count .entry)) (now (entries .entry))) (sides (now («x_lo» .entry)) (now («x_hi» .entry)) (now («y_lo» .entry)) (now («y_hi» .entry))) (now (kits .entry))) want allowance ⌝ }
 {
-    let w = want_fault(want);
+    let w = found::want_fault(want);
     if w.code != 0 {
-        return refuse(w.code, w.at);
+        return found::refuse(w.code, w.at);
     }
-    if !root_holds(kits, nodes, want) {
-        return refuse(31, 0);
+    if !found::root_holds(kits, nodes, want) {
+        return found::refuse(31, 0);
     }
     let l = kit::list_kinds(want);
     let m = l.count;
@@ -182,7 +99,7 @@ pub fn search_over(
         m,
         allowance,
     );
-    outcome_of(s)
+    found::outcome_of(s)
 }
 
 // The places that together hold a wanted kit and lie closest: 1, 2, 11, 12, 21 to 26, 31, 32, 33.
@@ -203,7 +120,7 @@ pub fn search(
     listed: usize,
     want: u64,
     allowance: u32,
-) -> Found
+) -> found::Found
     ensures { λ r. ⌜ r ≡ searched (table (now (x .entry)) (now (y .entry)) (now (kit .entry))) (tree (shape nodes listed (now (level .entry)) (now (start .entry)) (now (count .entry)) (now (entries .entry))) (sides (now («x_lo» .entry)) (now («x_hi» .entry)) (now («y_lo» .entry)) (now («y_hi» .entry))) (now (kits .entry))) want allowance ⌝ }
 {
     let v = fault(
@@ -224,7 +141,7 @@ pub fn search(
         want,
     );
     if v.code != 0 {
-        return refuse(v.code, v.at);
+        return found::refuse(v.code, v.at);
     }
     search_over(
         x,

@@ -13,7 +13,7 @@ fn put_places(places: [u16; 8]) {
     }
 }
 
-fn show(f: search::Found) {
+fn show(f: found::Found) {
     put(b"code=", f.code as u64);
     put(b" at=", f.at as u64);
     put(b" known=", f.known as u64);

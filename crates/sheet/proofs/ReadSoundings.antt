@@ -13,7 +13,7 @@ use Rattle.lines.specs.Form.{inForm, same}
 use Rattle.lines.specs.Line.{cut, due, readLine}
 use Rattle.lines.specs.Part.{several, Outcome, fault, accepted, readAll}
 use Rattle.rows.specs.Sheet.{Held, placePart, queryPart, sheetPart, readSheet}
-use Rattle.sheet.specs.Read.{reading, sheetOf, columnAfter}
+use Rattle.scan.specs.Read.{reading, sheetOf, columnAfter}
 
 abbrev one : String
 one = "sheet=1\nplaces=1\nplace=0\nx=-7\ny=8\nkit=0000000000000003\nwant=0000000000000001\nbudget=9\nend=sheet\n"

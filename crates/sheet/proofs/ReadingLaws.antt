@@ -14,12 +14,12 @@ use Rattle.lines.specs.Line.{Got, refused, got}
 use Rattle.lines.specs.Part.{andThen, after, several, Outcome, fault, accepted}
 use Rattle.lines.proofs.CodeLaws.{Codes, codes-line, codes-then, codes-viewed, codes-after, codes-before, codes-several, codes-all}
 use Rattle.rows.specs.Sheet.{Held, Writable, Place, fixed, coordinateLine, kitLine, pointPart, placePart, wantLine, budgetLine, queryPart, countLine, bodyPart, xOf, yOf, wordOf, columns, held, counted, sheetPart, sheetBytes, readSheet}
-use Rattle.rows.specs.Parts.{headPart}
+use Rattle.parts.specs.Parts.{headPart}
 use Rattle.rows.proofs.SheetLaws.{read-written, written-read}
-use Rattle.sheet.specs.declared.Sheet.{Sheet}
-use Rattle.sheet.specs.Read.{within, sheetOf, columnAfter, columnTaken, stored, passed, Fine}
-use Rattle.sheet.specs.Lent.{over}
-use Rattle.sheet.proofs.ScanLaws.{scan-1, scan-2, scan-3, scan-53, scan-accepted, found, found-read, many}
+use Rattle.scan.specs.declared.Sheet.{Sheet}
+use Rattle.scan.specs.Read.{within, sheetOf, columnAfter, columnTaken, stored, passed, Fine}
+use Rattle.scan.specs.Lent.{over}
+use Rattle.scan.proofs.ScanLaws.{scan-1, scan-2, scan-3, scan-53, scan-accepted, found, found-read, many}
 
 -- a refused sheet has code 51, 52 or 53
 codes-point : Codes pointPart

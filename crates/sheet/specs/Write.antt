@@ -8,7 +8,7 @@ use lib.ListN.{length}
 use Rattle.table.specs.Table.{tableRules}
 use Rattle.verdict.specs.Rules.{Rule}
 use Rattle.rows.specs.Sheet.{Held, sheetBytes}
-use Rattle.sheet.specs.Lent.{over}
+use Rattle.scan.specs.Lent.{over}
 
 -- 54: the buffer is not too short for the sheet
 abbrev pub rule54 : Held → ℕ → Rule

@@ -206,7 +206,7 @@ fn report(
     let nodes = chosen(shown, b.nodes, 0);
     show_nodes(nodes, level, start, count, x_lo, x_hi, y_lo, y_hi, kits);
     show_entries(shown, b.listed, entries);
-    let v = tree::check(
+    let v = inspect::check(
         first32(x, places),
         first32(y, chosen(column == SHORT_Y, index, places)),
         first64(kit, places),

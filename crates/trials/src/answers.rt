@@ -88,7 +88,7 @@ fn put_places(out: &mut [u8; BUFFER], to: usize, places: [u16; 8]) -> usize {
     at
 }
 
-pub(crate) fn put_found(out: &mut [u8; BUFFER], to: usize, f: search::Found) -> usize {
+pub(crate) fn put_found(out: &mut [u8; BUFFER], to: usize, f: found::Found) -> usize {
     let a = show::put_verdict(out, to, f.code, f.at);
     let places = f.places;
     let b = put_places(out, a, places);

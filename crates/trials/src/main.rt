@@ -94,7 +94,7 @@ fn check_of(
     let t = n.table;
     let r = n.runs;
     let s = n.sides;
-    let v = tree::check(
+    let v = inspect::check(
         columns::first32(x, t.x),
         columns::first32(y, t.y),
         columns::first64(kit, t.kit),

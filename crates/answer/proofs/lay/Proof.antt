@@ -7,7 +7,7 @@ use native.Mathlib.Omega.{arith}
 use borrow.Author.Needs.{needs}
 use lib.ListN.{length, take, length-take}
 use Rattle.print.proofs.PutLaws.{puts-first, puts-text}
-use Rattle.answer.specs.Answer.{answerLines}
+use Rattle.report.specs.Answer.{answerLines}
 use Rattle.answer.proofs.LentLaws.{too-short, has-room}
 use Rattle.answer.proofs.lay.Statement.{statement}
 use Rattle.answer.proofs.lay.Tie as tie

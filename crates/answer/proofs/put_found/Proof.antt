@@ -8,7 +8,7 @@ use lib.ListN.{length}
 use Rattle.print.proofs.PutLaws.{room-first, room-after, puts-then}
 use Rattle.kit.specs.Kit.{kinds}
 use Rattle.lines.specs.Text.{ascii}
-use Rattle.answer.specs.Answer.{wordLine, endLine, measureLines, groupLines, foundLines}
+use Rattle.report.specs.Answer.{wordLine, endLine, measureLines, groupLines, foundLines}
 use Rattle.answer.proofs.put_found.Statement.{statement}
 use Rattle.answer.proofs.put_found.Tie as tie
 

@@ -8,7 +8,7 @@ use lib.ListN.{length}
 use Rattle.print.proofs.PutLaws.{room-first, room-after, puts-then}
 use Rattle.verdict.specs.Families.{familyOf}
 use Rattle.lines.specs.Text.{ascii}
-use Rattle.answer.specs.Answer.{wordLine, numberLine, endLine, familyWord, refusedLines}
+use Rattle.report.specs.Answer.{wordLine, numberLine, endLine, familyWord, refusedLines}
 use Rattle.answer.proofs.put_refused.Statement.{statement}
 use Rattle.answer.proofs.put_refused.Tie as tie
 

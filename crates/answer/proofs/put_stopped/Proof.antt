@@ -6,7 +6,7 @@ use native.Mathlib.Omega.{arith}
 use borrow.Author.Needs.{needs}
 use lib.ListN.{length}
 use Rattle.print.proofs.PutLaws.{room-first, room-after, puts-then}
-use Rattle.answer.specs.Answer.{wordLine, numberLine, endLine, stoppedLines}
+use Rattle.report.specs.Answer.{wordLine, numberLine, endLine, stoppedLines}
 use Rattle.answer.proofs.put_stopped.Statement.{statement}
 use Rattle.answer.proofs.put_stopped.Tie as tie
 

@@ -7,7 +7,7 @@ use Rattle.tree.specs.Tree.{Tree}
 use Rattle.tree.specs.Lent.{shape, sides, tree}
 use Rattle.answer.proofs.LentLaws.{too-short}
 use Rattle.boundary.specs.Kept.{columns, buildLeaves}
-use Rattle.boundary.proofs.WordLaws.{relaid}
+use Rattle.words.proofs.WordLaws.{relaid}
 use Rattle.boundary.proofs.KeptLaws.{with-room, without-room, build-leaves, build-words}
 use Rattle.boundary.proofs.longhorbi_build.Statement.{statement}
 use Rattle.boundary.proofs.longhorbi_build.Tie as tie

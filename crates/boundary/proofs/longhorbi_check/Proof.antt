@@ -3,8 +3,8 @@
 use mathlib.Core.Path.{ap}
 use borrow.Author.Needs.{needs}
 use Rattle.answer.proofs.LentLaws.{too-short}
-use Rattle.boundary.specs.Words.{verdictWords}
-use Rattle.boundary.proofs.WordLaws.{relaid}
+use Rattle.words.specs.Words.{verdictWords}
+use Rattle.words.proofs.WordLaws.{relaid}
 use Rattle.boundary.proofs.longhorbi_check.Statement.{statement}
 use Rattle.boundary.proofs.longhorbi_check.Tie as tie
 

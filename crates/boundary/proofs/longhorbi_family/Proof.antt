@@ -4,7 +4,7 @@ use mathlib.Core.Path.{_≡_, sym, ap, _∙_}
 use borrow.Author.Needs.{needs}
 use Rattle.verdict.specs.Families.{familyOf}
 use Rattle.verdict.specs.declared.From.{From}
-use Rattle.boundary.specs.Words.{familyNumber}
+use Rattle.words.specs.Words.{familyNumber}
 use Rattle.boundary.proofs.longhorbi_family.Statement.{statement}
 use Rattle.boundary.proofs.longhorbi_family.Tie as tie
 

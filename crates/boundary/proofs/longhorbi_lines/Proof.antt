@@ -3,8 +3,8 @@
 use mathlib.Core.Path.{sym, _∙_}
 use borrow.Author.Tests.{not-true, not-false}
 use borrow.Author.Needs.{needs}
-use Rattle.boundary.proofs.WordLaws.{relaid}
-use Rattle.boundary.proofs.LineLaws.{no-lines, some-lines}
+use Rattle.words.proofs.WordLaws.{relaid}
+use Rattle.words.proofs.LineLaws.{no-lines, some-lines}
 use Rattle.boundary.proofs.longhorbi_lines.Statement.{statement}
 use Rattle.boundary.proofs.longhorbi_lines.Tie as tie
 

@@ -3,8 +3,8 @@
 use mathlib.Core.Path.{ap, _∙_}
 use borrow.Author.Needs.{needs}
 use Rattle.answer.proofs.LentLaws.{too-short}
-use Rattle.boundary.specs.Words.{sheetWords}
-use Rattle.boundary.proofs.WordLaws.{relaid}
+use Rattle.words.specs.Words.{sheetWords}
+use Rattle.words.proofs.WordLaws.{relaid}
 use Rattle.boundary.proofs.KeptLaws.{with-room, without-room}
 use Rattle.boundary.proofs.longhorbi_read.Statement.{statement}
 use Rattle.boundary.proofs.longhorbi_read.Tie as tie

@@ -3,9 +3,9 @@
 use mathlib.Core.Path.{ap, _∙_}
 use borrow.Author.Needs.{needs}
 use Rattle.answer.proofs.LentLaws.{too-short}
-use Rattle.boundary.specs.Words.{foundWords}
-use Rattle.boundary.proofs.WordLaws.{relaid}
-use Rattle.boundary.proofs.SearchLaws.{no-room}
+use Rattle.words.specs.Words.{foundWords}
+use Rattle.words.proofs.WordLaws.{relaid}
+use Rattle.words.proofs.SearchLaws.{no-room}
 use Rattle.boundary.proofs.longhorbi_search.Statement.{statement}
 use Rattle.boundary.proofs.longhorbi_search.Tie as tie
 

@@ -4,8 +4,8 @@ use mathlib.Core.Path.{ap}
 use mir.Facts.{toZ-ofZ}
 use borrow.Author.Needs.{needs}
 use Rattle.answer.proofs.LentLaws.{too-short}
-use Rattle.boundary.specs.Words.{measuredWords}
-use Rattle.boundary.proofs.WordLaws.{relaid}
+use Rattle.words.specs.Words.{measuredWords}
+use Rattle.words.proofs.WordLaws.{relaid}
 use Rattle.boundary.proofs.longhorbi_squared.Statement.{statement}
 use Rattle.boundary.proofs.longhorbi_squared.Tie as tie
 

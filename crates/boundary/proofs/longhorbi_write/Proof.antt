@@ -5,7 +5,7 @@ use mathlib.Core.List.{List}
 use Prim.Native.Nat.{ℕ}
 use borrow.Author.Needs.{needs}
 use Rattle.answer.proofs.LentLaws.{too-short}
-use Rattle.boundary.proofs.WordLaws.{relaid}
+use Rattle.words.proofs.WordLaws.{relaid}
 use Rattle.boundary.proofs.KeptLaws.{with-room, without-room, write-leaves, write-words}
 use Rattle.boundary.proofs.longhorbi_write.Statement.{statement}
 use Rattle.boundary.proofs.longhorbi_write.Tie as tie

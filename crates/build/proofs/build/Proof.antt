@@ -11,7 +11,7 @@ use Rattle.tree.specs.Rules.{Room, lengths}
 use Rattle.verdict.specs.Rules.{AllHold}
 use Rattle.verdict.proofs.RuleLaws.{all-hold, passed}
 use Rattle.build.specs.Room.{buildRules}
-use Rattle.build.proofs.LaidLaws.{laid-of}
+use Rattle.levels.proofs.LaidLaws.{laid-of}
 use Rattle.build.proofs.BuildLaws.{plotted, kept, Needs, room-of, written}
 use Rattle.build.proofs.build.Statement.{statement}
 use Rattle.build.proofs.build.Tie as tie

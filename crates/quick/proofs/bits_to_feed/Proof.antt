@@ -4,7 +4,7 @@ use native.Mathlib.Omega.{arith}
 use lib.ListN.{length}
 use lib.Seq.{length-take-le}
 use Rattle.lines.specs.Form.{bits}
-use Rattle.lines.proofs.ValueLaws.{number-told}
+use Rattle.readers.proofs.ValueLaws.{number-told}
 use Rattle.quick.proofs.QuickLaws.{no-number}
 use borrow.Author.Needs.{needs}
 use Rattle.quick.proofs.bits_to_feed.Statement.{statement}

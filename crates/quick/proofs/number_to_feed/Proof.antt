@@ -4,7 +4,7 @@ use native.Mathlib.Omega.{arith}
 use lib.ListN.{length, getD}
 use lib.Seq.{length-take-le}
 use Rattle.lines.proofs.DigitLaws.{unglyph-low}
-use Rattle.lines.proofs.ParseLaws.{Sofar, sofar-none, sofar-more, digit-make}
+use Rattle.readers.proofs.ParseLaws.{Sofar, sofar-none, sofar-more, digit-make}
 use Rattle.quick.proofs.QuickLaws.{no-number, number-leads}
 use borrow.Author.Needs.{needs}
 use Rattle.quick.proofs.number_to_feed.Statement.{statement}

@@ -3,7 +3,7 @@ use Prim.Native.Nat.{ℕ}
 use native.Mathlib.Omega.{arith}
 use mir.Syntax.{w32}
 use mir.Facts.{toZ-pos}
-use Rattle.lines.proofs.SignedLaws.{neg-fits, neg-held}
+use Rattle.readers.proofs.SignedLaws.{neg-fits, neg-held}
 use Rattle.quick.specs.Quick.{withSign}
 use Rattle.quick.proofs.QuickLaws.{sign-some}
 use borrow.Author.Needs.{needs}

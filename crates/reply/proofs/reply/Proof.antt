@@ -2,8 +2,8 @@ use mathlib.Core.Path.{ap, _∙_}
 use mathlib.Core.List.{List}
 use Prim.Native.Nat.{ℕ}
 use borrow.Author.Needs.{needs}
-use Rattle.search.specs.declared.Found.{Found}
-use Rattle.answer.specs.Answer.{answerLines}
+use Rattle.found.specs.declared.Found.{Found}
+use Rattle.report.specs.Answer.{answerLines}
 use Rattle.answer.specs.Lent.{laid, holding}
 use Rattle.reply.proofs.ReplyLaws.{printed-long, printed-sheet}
 use Rattle.reply.proofs.reply.Statement.{statement}

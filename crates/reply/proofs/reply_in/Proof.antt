@@ -4,9 +4,9 @@ use Prim.Native.Nat.{ℕ}
 use lib.Seq.{length-take-le}
 use borrow.Author.Needs.{needs}
 use Rattle.table.specs.Table.{Valid}
-use Rattle.search.specs.declared.Found.{Found}
+use Rattle.found.specs.declared.Found.{Found}
 use Rattle.rows.specs.Sheet.{readSheet}
-use Rattle.answer.specs.Answer.{answerLines}
+use Rattle.report.specs.Answer.{answerLines}
 use Rattle.answer.specs.Lent.{laid, holding}
 use Rattle.reply.specs.Reply.{printedFor}
 use Rattle.reply.proofs.ReplyLaws.{Took, took, read-table, reply-refused, reply-found}

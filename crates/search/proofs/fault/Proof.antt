@@ -5,7 +5,7 @@ use Rattle.tree.specs.Lent.{shape, sides, tree}
 use Rattle.verdict.specs.Rules.{Rule}
 use Rattle.tree.specs.Rules.{checkRules}
 use Rattle.verdict.proofs.RuleLaws.{passed-on, stopped}
-use Rattle.search.specs.Search.{queryRules}
+use Rattle.found.specs.Search.{queryRules}
 use Rattle.search.proofs.fault.Statement.{statement}
 use Rattle.search.proofs.fault.Tie as tie
 

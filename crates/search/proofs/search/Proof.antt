@@ -3,7 +3,7 @@ use borrow.Author.Needs.{needs}
 use Rattle.table.specs.Table.{Table, table}
 use Rattle.tree.specs.Tree.{Tree}
 use Rattle.tree.specs.Lent.{shape, sides, tree}
-use Rattle.search.proofs.SearchLaws.{sound-all, searched-fault}
+use Rattle.found.proofs.SearchLaws.{sound-all, searched-fault}
 use Rattle.search.proofs.search.Statement.{statement}
 use Rattle.search.proofs.search.Tie as tie
 

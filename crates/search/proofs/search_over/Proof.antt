@@ -14,8 +14,8 @@ use Rattle.closest.specs.Walk.{begins, standsAt}
 use Rattle.groups.specs.Members.{Few}
 use Rattle.walk.specs.State.{stateOf}
 use Rattle.groups.proofs.EntryLaws.{meets}
-use Rattle.search.specs.Search.{outcome}
-use Rattle.search.proofs.SearchLaws.{take-padded, few-of, Sound, sound-want, searched-want, searched-none, searched-walk}
+use Rattle.found.specs.Search.{outcome}
+use Rattle.found.proofs.SearchLaws.{take-padded, few-of, Sound, sound-want, searched-want, searched-none, searched-walk}
 use Rattle.search.proofs.search_over.Statement.{statement}
 use Rattle.search.proofs.search_over.Tie as tie
 

@@ -5,13 +5,13 @@ use lib.ListN.{length, drop}
 use Rattle.table.specs.Table.{places}
 use Rattle.lines.specs.Line.{got}
 use Rattle.lines.specs.Part.{accepted}
-use Rattle.lines.proofs.ReadLaws.{told-refused, told-got}
+use Rattle.readers.proofs.ReadLaws.{told-refused, told-got}
 use Rattle.rows.specs.Sheet.{Held, readSheet}
-use Rattle.rows.specs.Parts.{headPart}
-use Rattle.rows.proofs.HeadLaws.{head-few}
-use Rattle.sheet.specs.declared.Sheet.{Sheet}
-use Rattle.sheet.specs.Read.{roomIn, sheetOf}
-use Rattle.sheet.proofs.SeveralLaws.{fine-code}
+use Rattle.parts.specs.Parts.{headPart}
+use Rattle.parts.proofs.HeadLaws.{head-few}
+use Rattle.scan.specs.declared.Sheet.{Sheet}
+use Rattle.scan.specs.Read.{roomIn, sheetOf}
+use Rattle.scan.proofs.SeveralLaws.{fine-code}
 use Rattle.sheet.proofs.ReadingLaws.{done-refused, is-accepted, done-54, head-fine, stands, done-read}
 use borrow.Author.Needs.{needs}
 use Rattle.sheet.proofs.read.Statement.{statement}

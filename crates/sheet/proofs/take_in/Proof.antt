@@ -4,12 +4,12 @@ use native.Mathlib.Omega.{arith}
 use lib.ListN.{length, drop}
 use Rattle.lines.specs.Line.{got}
 use Rattle.lines.specs.Part.{Outcome}
-use Rattle.lines.proofs.ReadLaws.{told-refused, told-got}
+use Rattle.readers.proofs.ReadLaws.{told-refused, told-got}
 use Rattle.rows.specs.Sheet.{Held, xOf, yOf, wordOf}
-use Rattle.rows.specs.Parts.{headPart}
-use Rattle.rows.proofs.HeadLaws.{head-few}
-use Rattle.sheet.specs.Read.{sheetOf}
-use Rattle.sheet.proofs.ScanLaws.{scan-1}
+use Rattle.parts.specs.Parts.{headPart}
+use Rattle.parts.proofs.HeadLaws.{head-few}
+use Rattle.scan.specs.Read.{sheetOf}
+use Rattle.scan.proofs.ScanLaws.{scan-1}
 use Rattle.sheet.proofs.ReadingLaws.{taken, not-taken}
 use borrow.Author.Needs.{needs}
 use Rattle.sheet.proofs.take_in.Statement.{statement}

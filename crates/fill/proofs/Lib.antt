@@ -1,0 +1,3 @@
+-- Laws of columns that are filled.
+pub mod FillLaws
+pub mod ValueLaws

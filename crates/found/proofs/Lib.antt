@@ -1,0 +1,3 @@
+-- The search by cases.
+pub mod SearchLaws
+pub mod Soundings

@@ -1,0 +1,3 @@
+-- Laws of the key and its bits.
+pub mod KeyLaws
+pub mod SpreadLaws

@@ -1,0 +1,3 @@
+-- Laws of rule 24.
+pub mod RepeatLaws
+pub mod MarkLaws

@@ -1,0 +1,2 @@
+-- Laws of a search over our own tree.
+pub mod BuiltLaws

@@ -1,0 +1,2 @@
+-- What the readers of a line give.
+pub mod Readers

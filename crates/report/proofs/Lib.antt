@@ -1,0 +1,4 @@
+-- Laws of the lines of an answer.
+pub mod RootLaws
+pub mod GroupLaws
+pub mod Soundings

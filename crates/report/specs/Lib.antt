@@ -1,0 +1,3 @@
+-- The lines of an answer.
+pub mod Distance
+pub mod Answer

@@ -1,0 +1,3 @@
+-- What reading a place sheet into lent columns comes to.
+pub mod Lent
+pub mod Read

@@ -1,0 +1,2 @@
+-- Laws of the rules 21 to 23.
+pub mod RunLaws

@@ -1,0 +1,3 @@
+-- The words that the calls for C give and take.
+pub mod Words
+pub mod Lines

@@ -4,6 +4,7 @@ use mathlib.Core.Path.{_≡_, refl, sym, ap, ap₂, subst, _∙_}
 use mathlib.Core.Bool.{Bool}
 use mathlib.Core.List.{List, [], _∷_, _++_, append-assoc, append-nil}
 use Prim.Native.Nat.{ℕ, suc, _+_, _-_, _≤_, _<_}
+use native.Mathlib.Decide.{decLt}
 use native.Mathlib.Numerals.{add-one}
 use native.Mathlib.Omega.{arith}
 use lib.ListN.{length, replicate, set, length-append}
@@ -47,6 +48,14 @@ module _ {w : ℕ} where
     all = append-assoc (f .done) (k ∷ []) to-come ∙ f .all;
   }
 
+  -- all are listed, or some are to come
+  pub left : {list : List ℕ} {n : ℕ} {to-come : List ℕ} → Filled w list n to-come → length (kinds w) ≡ n + length to-come
+  left {to-come = l} f = omega (arith, f .long, length-append (f .done) l, ap length (f .all))
+
+  pub none-left : {list : List ℕ} {n : ℕ} (to-come : List ℕ) → Filled w list n to-come → length (kinds w) ≤ n → to-come ≡ []
+  none-left [] f h = refl
+  none-left (k ∷ l) f h = absurd (omega (arith, left f))
+
   pub full : {list : List ℕ} {n : ℕ} → Filled w list n [] → asListed n list ≡ listed (kinds w)
   full f = let e = sym (append-nil (f .done)) ∙ f .all in ap₂ asListed (sym (f .long) ∙ ap length e) (f .has ∙ ap padded e)
 
@@ -71,6 +80,13 @@ from-next w k h =
 pub from-last : (w k : ℕ) → 64 ≤ k → kindsFrom w k (64 - k) ≡ []
 unfolding kindsFrom
 from-last w k h = let e : 64 - k ≡ 0 = omega arith in ap (kindsFrom w k) e
+
+pub below-64 : (w k : ℕ) {list : List ℕ} {n : ℕ} → Filled w list n (kindsFrom w k (64 - k)) → n < length (kinds w) → k < 64
+below-64 w k f h = go (decLt k 64)
+  where
+    go : Dec (k < 64) → k < 64
+    go (yes l) = l
+    go (no l) = absurd (omega (arith, left f, ap length (from-last w k (omega arith))))
 
 pub keep-is : (w k : ℕ) (l : List ℕ) {b : Bool} → held w k ≡ b → keep (held w k) k l ≡ keep b k l
 keep-is w k l e = ap (λ (b : Bool). keep b k l) e

@@ -37,10 +37,11 @@ pub fn list_kinds(want: u64) -> Listed
     requires { ⌜ length (kinds want) ≤ 8 ⌝ }
     ensures { λ r. ⌜ r ≡ listed (kinds want) ⌝ }
 {
+    let many = count_kinds(want) as usize;
     let mut kinds = [0u8; 8];
     let mut count: usize = 0;
     let mut k: usize = 0;
-    while k < 64 {
+    while count < many {
         if (want >> k) % 2 == 1 {
             kinds[count] = k as u8;
             count += 1;

@@ -105,10 +105,10 @@ double time_of(const std::function<void()> &call) {
     }
 }
 
-// The least of five rounds for each call, the calls taking turns.
+// The least of fifteen rounds for each call, the calls taking turns.
 std::vector<double> times(const std::vector<std::function<void()>> &calls) {
     std::vector<double> least(calls.size(), HUGE_VAL);
-    for (int round = 0; round < 5; round++)
+    for (int round = 0; round < 15; round++)
         for (size_t i = 0; i < calls.size(); i++) least[i] = std::min(least[i], time_of(calls[i]));
     return least;
 }

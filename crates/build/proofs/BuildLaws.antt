@@ -4,17 +4,15 @@ use mathlib.Core.Path.{◌≡◌, refl, ◌∙◌}
 use mathlib.Core.List.{List, [], ◌∷◌, ◌++◌}
 use Prim.Native.Nat.{ℕ, zero, suc, ◌≤◌}
 use native.Mathlib.Omega.{arith}
-use lib.Bits.{bit_or}
+use lib.IntN.{ℤ}
 use lib.ListN.{drop}
-use Rattle.plane.specs.Plane.{join_boxes}
-use Rattle.plane.specs.declared.Box.{Box}
 use Rattle.order.specs.Order.{Plotted}
 use Rattle.order.specs.Tab.{tab}
 use Rattle.order.proofs.TabLaws.{length_tab}
-use Rattle.table.specs.Table.{Table, places, box_of, kit_of, Valid}
+use Rattle.table.specs.Table.{Table, places, Valid}
 use Rattle.table.proofs.TableLaws.{valid_even, valid_ranged}
-use Rattle.tree.specs.Tree.{Sides, Tree}
-use Rattle.tree.specs.Lent.{shape, tree}
+use Rattle.tree.specs.Tree.{Tree}
+use Rattle.tree.specs.Lent.{shape, sides, tree}
 use Rattle.tree.specs.Rules.{Room}
 use Rattle.tree.specs.declared.Lengths.{Lengths}
 use Rattle.verdict.specs.Rules.{Holds, verdict, says}
@@ -22,10 +20,7 @@ use Rattle.verdict.proofs.RuleLaws.{breaks_at, holds_all}
 use Rattle.levels.specs.Levels.{nodes, listed, level_at, start_at, count_at}
 use Rattle.levels.specs.Built.{box_at, kit_at, entries_of, column, built}
 use Rattle.build.specs.Room.{rule41, over, written_over, afterwards}
-use Rattle.levels.proofs.Laid.{Laid}
-use Rattle.levels.proofs.LaidLaws.{length_entries, laid_of}
-use Rattle.fill.specs.Downward.{Downward, Follows, Filled}
-use Rattle.fill.proofs.DownwardLaws.{laid_downward, laid_follows}
+use Rattle.levels.proofs.LaidLaws.{length_entries}
 
 -- a valid table can be put in order
 pub plotted : {t : Table} → Valid t → Plotted t.x t.y
@@ -60,20 +55,13 @@ module _ {t : Table} {k j : ℕ} (n : Needs t k j) where
   entries_over : (before : List ℕ) {after : List ℕ} → after ≡ entries_of t ++ drop (listed (places t)) before → after ≡ over (entries_of t) before
   entries_over before e = e ∙ rw (length_entries t n.few)
 
-  -- the columns of levels, runs and entries are filled
-  module _ (before : Tree) {level start count entries : List ℕ} (e₁ : level ≡ tab (level_at (places t)) k ++ drop k before.shape.level) (e₂ : start ≡ tab (start_at (places t)) k ++ drop k before.shape.start) (e₃ : count ≡ tab (count_at (places t)) k ++ drop k before.shape.count) (e₄ : entries ≡ entries_of t ++ drop (listed (places t)) before.shape.entries) where
-    laid : Laid t (shape k 0 level start count entries)
-    laid = laid_of n.few n.nodes_is _ _ _ _ e₁ e₂ e₃ e₄
-
-    -- the others can be filled
-    pub downward : Downward (places t) (shape k 0 level start count entries)
-    downward = laid_downward laid n.nodes_is (omega arith)
-
-    -- and then the builder's tree is written over what was lent: its boxes and kit words follow the runs
-    pub written : (b : Sides) (kits : List ℕ) → ((f : ℕ → Box) → Follows join_boxes (box_of t) (shape k 0 level start count entries) f → Filled k f before.sides b) →
-        ((f : ℕ → ℕ) → Follows bit_or (kit_of t) (shape k 0 level start count entries) f → kits ≡ tab f k ++ drop k before.kits) →
-        tree (shape k j level start count entries) b kits ≡ written_over (built t) before
-    written b kits boxes words =
-        let s = boxes (box_at t) (laid_follows laid n.nodes_is join_boxes (box_of t)) in
-        let w = words (kit_at t) (laid_follows laid n.nodes_is bit_or (kit_of t)) in
-        rw (column_over _ _ e₁, column_over _ _ e₂, column_over _ _ e₃, entries_over _ e₄, column_over _ _ s.x_lo, column_over _ _ s.x_hi, column_over _ _ s.y_lo, column_over _ _ s.y_hi, column_over _ _ w, n.nodes_is, n.listed_is)
+  -- all columns filled: the builder's tree is written over what was lent
+  pub written : (before : Tree) {level start count entries kits : List ℕ} {x_lo x_hi y_lo y_hi : List ℤ} →
+      level ≡ tab (level_at (places t)) k ++ drop k before.shape.level → start ≡ tab (start_at (places t)) k ++ drop k before.shape.start → count ≡ tab (count_at (places t)) k ++ drop k before.shape.count →
+      entries ≡ entries_of t ++ drop (listed (places t)) before.shape.entries →
+      x_lo ≡ tab (λ m. (box_at t m).x.lo) k ++ drop k before.sides.x_lo → x_hi ≡ tab (λ m. (box_at t m).x.hi) k ++ drop k before.sides.x_hi →
+      y_lo ≡ tab (λ m. (box_at t m).y.lo) k ++ drop k before.sides.y_lo → y_hi ≡ tab (λ m. (box_at t m).y.hi) k ++ drop k before.sides.y_hi →
+      kits ≡ tab (kit_at t) k ++ drop k before.kits →
+      tree (shape k j level start count entries) (sides x_lo x_hi y_lo y_hi) kits ≡ written_over (built t) before
+  written before e₁ e₂ e₃ e₄ e₅ e₆ e₇ e₈ e₉ =
+      rw (column_over _ _ e₁, column_over _ _ e₂, column_over _ _ e₃, entries_over _ e₄, column_over _ _ e₅, column_over _ _ e₆, column_over _ _ e₇, column_over _ _ e₈, column_over _ _ e₉, n.nodes_is, n.listed_is)

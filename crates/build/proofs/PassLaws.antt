@@ -9,24 +9,22 @@ use Rattle.order.proofs.OrderLaws.{order_below, order_apart}
 use Rattle.table.specs.Table.{Table, places, Valid, table_rules}
 use Rattle.table.specs.Table as table
 use Rattle.table.proofs.TableLaws.{valid_even}
-use Rattle.tree.specs.Tree.{Shape, Tree, level_of, start_of, due, owner, Thing, named, box_of, kit_of}
+use Rattle.tree.specs.Tree.{Shape, Tree, level_of, start_of, due, owner, Thing, place, node, named, box_of, kit_of, joined_run}
 use Rattle.tree.specs.Tree as tree
 use Rattle.tree.specs.Rules.{Shaped, Ended, MayName, tree_rules, check_rules}
 use Rattle.tree.proofs.OwnerLaws.{Runs, owner_stands}
+use Rattle.tree.proofs.NodeLaws.{run_says_lem}
 use Rattle.tree.proofs.TreeLaws.{Meets, of_meets}
 use Rattle.verdict.specs.Rules.{AllHold, verdict, says}
 use Rattle.verdict.proofs.RuleLaws.{all_hold, goes_on}
 use Rattle.levels.specs.Levels.{nodes, listed, level_at}
-use Rattle.levels.specs.Built.{box_at, built}
+use Rattle.levels.specs.Built.{value_at, box_at, built}
 use Rattle.build.specs.Room.{written_over}
-use Rattle.levels.proofs.Laid.{Laid}
+use Rattle.levels.specs.Laid.{Laid}
 use Rattle.levels.proofs.LevelLaws.{height_high, over_zero, none_of, nodes_few}
 use Rattle.levels.proofs.RankLaws.{ranked, is_node, level_is, count_low}
 use Rattle.levels.proofs.ChainLaws.{root_start, next_start, last_end}
-use Rattle.levels.proofs.LaidLaws.{tab_long, says_tab, laid_of, Entry, of_place, of_node, entry_at}
-use Rattle.fill.specs.Downward.{Downward}
-use Rattle.fill.proofs.FollowLaws.{follows_joins}
-use Rattle.fill.proofs.DownwardLaws.{laid_downward, laid_follows}
+use Rattle.levels.proofs.LaidLaws.{tab_long, says_tab, laid_of, Entry, of_place, of_node, entry_at, run_value}
 
 module _ (t : Table) (few : places t ≤ 4096) (before : Tree) where
   abbrev n : ℕ
@@ -92,9 +90,10 @@ module _ (t : Table) (few : places t ≤ 4096) (before : Tree) where
   apart h (of_node _) (of_place _ _) z = let e : ◌≡◌ {A = ℕ} 0 1 = cc in omega arith
   apart {i} {j} h (of_node _) (of_node _) z = let e : suc j ≡ suc i = cc in omega arith
 
-  -- 25 and 26: the columns say what follows the runs
-  downward : Downward n s
-  downward = laid_downward laid refl laid.long
+  -- 25 and 26: what a node says is what its run comes to
+  joins : {A : Type 0} (op : A → A → A) (g : ℕ → A) (f : Thing → A) → ((p : ℕ) → f (place p) ≡ g p) → ((q : ℕ) → q < nodes n → f (node q) ≡ value_at op t g q) →
+      (m : ℕ) → m < nodes n → f (node m) ≡ joined_run op f s m
+  joins op g f h k m l = k m l ∙ sym (run_value laid m l op g f h (λ q _ b. k q b)) ∙ run_says_lem runs m l op f
 
   boxes : (q : ℕ) → q < nodes n → tree.box_at left.sides q ≡ box_at t q
   boxes q l = ap₂ box (ap₂ span ((says_tab _ refl refl).at q l) ((says_tab _ refl refl).at q l)) (ap₂ span ((says_tab _ refl refl).at q l) ((says_tab _ refl refl).at q l))
@@ -120,8 +119,8 @@ module _ (t : Table) (few : places t ≤ 4096) (before : Tree) where
     runs = runs;
     names = λ i l. may (level_of_lem (owner s i) (owner_stands runs i l).node) (entry i l).1;
     new = λ i l j b. apart b (entry j (omega arith)).1 (entry i l).1;
-    boxed = follows_joins join_boxes runs downward (laid_follows laid refl join_boxes (table.box_of t)) (box_of t left.sides) (λ _. refl) boxes;
-    kitted = follows_joins bit_or runs downward (laid_follows laid refl bit_or (table.kit_of t)) (kit_of t left.kits) (λ _. refl) (λ q l. (says_tab _ refl refl).at q l);
+    boxed = joins join_boxes (table.box_of t) (box_of t left.sides) (λ _. refl) boxes;
+    kitted = joins bit_or (table.kit_of t) (kit_of t left.kits) (λ _. refl) (λ q l. (says_tab _ refl refl).at q l);
   }
 
 -- the builder's tree passes all rules, whatever the lent columns held before

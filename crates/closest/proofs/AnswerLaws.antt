@@ -24,7 +24,7 @@ use Rattle.walks.proofs.WalkLaws.{Drops, exact}
 use Rattle.walks.proofs.OrderLaws.{clash, not_true, by_le, by_order, before_order}
 use Rattle.walks.proofs.BestLaws.{best_of, best_unique, best_lawful}
 use Rattle.walks.proofs.AllowanceLaws.{within, spent_is}
-use Rattle.closest.specs.Group.{Covers, diameter, better_in, IsAnswer}
+use Rattle.closest.specs.Group.{Covers, diameter, better, IsAnswer}
 use Rattle.closest.specs.Candidate.{Good, member, scene, too_far}
 use Rattle.closest.specs.Walk.{holds, boxes, roots, whole_walk, begins, stands_at}
 use Rattle.closest.proofs.EntryLaws.{named_at, entry_good, good_below}
@@ -32,7 +32,7 @@ use Rattle.closest.proofs.ReachLaws.{Sound, Fine, Under, closed, reached, reache
 use Rattle.closest.proofs.DropLaws.{Around, safe}
 
 -- the comparison of groups is a strict total order, so there is one answer
-pub better_order : (t : Table) → Order (better_in t)
+pub better_order : (t : Table) → Order (better t)
 better_order t = by_order (diameter t) before before_order
 
 pub answer_unique : (t : Table) (kinds : List ℕ) (k l : Option (List ℕ)) → IsAnswer t kinds k → IsAnswer t kinds l → k ≡ l
@@ -74,7 +74,7 @@ module _ {t : Table} {tree : Tree} (m : Meets t tree) where
   pub sound : Sound (places t) tree.shape (holds t tree)
   sound = record { linked = linked m; rises = λ k n i. node_holds m k i n }
 
-  pub around : Around t tree.shape (holds t tree) (boxes t tree)
+  around : Around t tree.shape (holds t tree) (boxes t tree)
   around k q x b h = below_within m b
 
   -- a kind that a thing holds, some place below it holds
@@ -109,7 +109,7 @@ module _ {t : Table} {tree : Tree} (m : Meets t tree) where
 module _ {t : Table} {tree : Tree} (m : Meets t tree) (kinds : List ℕ) where
   -- ---- the candidate that is the root for each kind
 
-  pub root_at : (i : ℕ) → i < length (roots kinds) → member (roots kinds) i ≡ node 0
+  root_at : (i : ℕ) → i < length (roots kinds) → member (roots kinds) i ≡ node 0
   root_at i l = get_or-replicate (length kinds) i (node 0) (place 0) (omega (arith, length-replicate (length kinds) (node 0)))
 
   pub roots_fine : Begun t tree kinds → Fine (places t) tree.shape (holds t tree) kinds (roots kinds)
@@ -118,7 +118,7 @@ module _ {t : Table} {tree : Tree} (m : Meets t tree) (kinds : List ℕ) where
       record { size = n; good = λ i l. rw (root_at i l) b.some; holding = λ i l. rw (root_at i l) (b.all i (omega arith)) }
 
   -- below it are the groups that cover the kinds
-  pub covers_of : {g : List ℕ} → Begun t tree kinds → Under tree.shape (holds t tree) kinds (roots kinds) g → Covers t kinds g
+  covers_of : {g : List ℕ} → Begun t tree kinds → Under tree.shape (holds t tree) kinds (roots kinds) g → Covers t kinds g
   covers_of b u =
       let n = length-replicate (length kinds) (node 0) in record {
         size = u.size ∙ n;
@@ -126,7 +126,7 @@ module _ {t : Table} {tree : Tree} (m : Meets t tree) (kinds : List ℕ) where
         holds = λ i l. u.holding i (omega arith);
       }
 
-  pub of_covers : {g : List ℕ} → Covers t kinds g → Under tree.shape (holds t tree) kinds (roots kinds) g
+  of_covers : {g : List ℕ} → Covers t kinds g → Under tree.shape (holds t tree) kinds (roots kinds) g
   of_covers {g} c =
       let n = length-replicate (length kinds) (node 0) in record {
         size = c.size ∙ sym n;
@@ -136,8 +136,8 @@ module _ {t : Table} {tree : Tree} (m : Meets t tree) (kinds : List ℕ) where
 
   -- ---- the answer
 
-  drops : Drops (scene tree.shape (holds t tree) kinds) (best (better_in t) (diameter t)) (diameter t) (Fine (places t) tree.shape (holds t tree) kinds) (λ k. Unit {0}) (too_far (boxes t tree) kinds)
-  drops = record { law = best_lawful (better_in t) (diameter t) (by_le (diameter t) before); closed = closed (sound m) kinds; safe = safe (sound m) kinds t (boxes t tree) (around m) }
+  drops : Drops (scene tree.shape (holds t tree) kinds) (best (better t) (diameter t)) (diameter t) (Fine (places t) tree.shape (holds t tree) kinds) (λ k. Unit {0}) (too_far (boxes t tree) kinds)
+  drops = record { law = best_lawful (better t) (diameter t) (by_le (diameter t) before); closed = closed (sound m) kinds; safe = safe (sound m) kinds t (boxes t tree) (around m) }
 
   -- a walk that begins ends with the answer
   pub walk_answers : begins t tree kinds ≡ true → IsAnswer t kinds (final none (whole_walk t tree kinds))

@@ -7,4 +7,3 @@ pub mod ReachLaws
 pub mod DropLaws
 pub mod AnswerLaws
 pub mod Soundings
-pub mod AnyLaws

@@ -14,7 +14,7 @@ use Rattle.tree.specs.Tree.{Tree}
 use Rattle.tree.specs.Lent.{shape, sides, tree}
 use Rattle.walks.specs.Allowance.{Stand, stand, stopped}
 use Rattle.walks.specs.Best.{improve}
-use Rattle.walks.specs.Order.{first_of, before}
+use Rattle.walks.specs.Order.{first_by, before}
 use Rattle.walks.specs.Walk.{final, chain, dropped, walk}
 use Rattle.closest.specs.Group.{farthest, spread, diameter}
 use Rattle.closest.specs.Candidate.{entries_of, lead, topmost, levels, group_of, replaced, opened, boxes_in, too_far}
@@ -66,7 +66,7 @@ soundings =
     ∷ []
 
 sounded : map outcome soundings ≡ map (λ e. e.stands) soundings
-unfolding sounding outcome soundings begins all_held stopped final chain dropped walk improve first_of before farthest spread diameter tab entries_of lead topmost levels group_of replaced opened boxes_in too_far rise
+unfolding sounding outcome soundings begins all_held stopped final chain dropped walk improve first_by before farthest spread diameter tab entries_of lead topmost levels group_of replaced opened boxes_in too_far rise
 sounded = refl
 
 -- their squares: places 2, 3 tie with 0, 1 and lose

@@ -7,7 +7,7 @@ use Rattle.plane.specs.Plane.{apart}
 use Rattle.plane.specs.declared.Box.{Box}
 use Rattle.table.specs.Table.{Table, places, box_of, kit_of}
 use Rattle.walks.specs.Best.{BestOf}
-use Rattle.walks.specs.Order.{first_of, before}
+use Rattle.walks.specs.Order.{first_by, before}
 
 -- g is a group for the kinds: for each of them the number of a place that holds it
 pub record Covers (t : Table) (kinds g : List ℕ) : Type 0 where
@@ -29,14 +29,10 @@ spread (b ∷ l) = max (farthest b l) (spread l)
 unfoldable pub diameter : Table → List ℕ → ℕ
 diameter t g = spread (map (box_of t) g)
 
--- is the first of two groups, each with its squared diameter, the better? The one with less is, among equals the first in dictionary order
-abbrev pub better : ℕ → List ℕ → ℕ → List ℕ → Bool
-better d g e h = first_of d e (before g h)
-
--- the same for the groups of a table
-abbrev pub better_in : Table → List ℕ → List ℕ → Bool
-better_in t g h = better (diameter t g) g (diameter t h) h
+-- the better of two groups: the one with less squared diameter, among equals the first in dictionary order
+abbrev pub better : Table → List ℕ → List ℕ → Bool
+better t = first_by (diameter t) before
 
 -- the answer: a group than which no group for the kinds is better, or none where there is no group
 abbrev pub IsAnswer : Table → List ℕ → Option (List ℕ) → Type 0
-IsAnswer t kinds = BestOf (better_in t) (Covers t kinds)
+IsAnswer t kinds = BestOf (better t) (Covers t kinds)

@@ -8,8 +8,8 @@ use Rattle.table.specs.Table.{Table}
 use Rattle.tree.specs.Tree.{Tree, Thing, node, box_of, kit_of}
 use Rattle.walks.specs.Allowance.{Stand, stopped}
 use Rattle.walks.specs.Best.{best}
-use Rattle.walks.specs.Walk.{Memory, walk}
-use Rattle.closest.specs.Group.{better_in, diameter}
+use Rattle.walks.specs.Walk.{walk}
+use Rattle.closest.specs.Group.{better, diameter}
 use Rattle.closest.specs.Candidate.{levels, scene, too_far}
 
 -- a thing holds a kind by its kit word, and has one box in the place of any kind
@@ -23,13 +23,10 @@ boxes t tree k x = box_of t tree.sides x
 abbrev pub roots : List ℕ → List Thing
 roots kinds = replicate (length kinds) (node 0)
 
--- what is known after each step of taking a candidate and all below it, with any box of a thing in the place of a kind and any memory
-abbrev pub walk_by : {K : Type 0} → Table → Tree → (ℕ → Thing → Box) → Memory (List ℕ) K → List ℕ → List Thing → K → List K
-walk_by t tree box memory kinds c k = walk (scene tree.shape (holds t tree) kinds) memory (too_far box kinds) (suc (levels tree.shape c)) c k
-
--- with the node's own box and the memory of the best group
+-- the best group known after each step of taking a candidate and all below it
 abbrev pub walk_from : Table → Tree → List ℕ → List Thing → Option (List ℕ) → List (Option (List ℕ))
-walk_from t tree = walk_by t tree (boxes t tree) (best (better_in t) (diameter t))
+walk_from t tree kinds c k =
+    walk (scene tree.shape (holds t tree) kinds) (best (better t) (diameter t)) (too_far (boxes t tree) kinds) (suc (levels tree.shape c)) c k
 
 -- and of the whole walk
 abbrev pub whole_walk : Table → Tree → List ℕ → List (Option (List ℕ))

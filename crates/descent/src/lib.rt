@@ -1,17 +1,14 @@
 // From an opened candidate down: it calls itself on the candidate with one member replaced.
-ghost use Rattle.std.specs.Prelude.{◌≡◌, false, length, take};
-ghost use Rattle.std.proofs.Math.Option.{some};
+ghost use Rattle.std.specs.Prelude.{false, ◌<◌, take, set};
 ghost use Rattle.table.specs.Table.{table};
 ghost use Rattle.tree.specs.Lent.{shape, sides, tree};
-ghost use Rattle.closest.specs.Walk.{boxes};
 ghost use Rattle.walks.specs.Allowance.{stand};
 ghost use Rattle.members.specs.Levels.{levels_at};
-ghost use Rattle.members.specs.Kept.{kept_at, kept};
-ghost use Rattle.groups.specs.Members.{members_at};
-ghost use Rattle.groups.specs.Opening.{InColumns, Led};
+ghost use Rattle.members.specs.Best.{best_at};
+ghost use Rattle.groups.specs.Members.{members_at, Few, Passes};
+ghost use Rattle.groups.specs.Opening.{Opened, Led};
 
-// Internal: opens a candidate at its topmost member and takes all that comes of it; says whether the allowance was spent.
-// `was` is the bound by which the candidate was tested: where it has changed since, the pairs of the members that stay are tested again.
+// Internal: opens a candidate, in which a member has been replaced, at its topmost member, and takes all that comes of it; says whether the allowance was spent.
 pub fn descend(
     level: &[u8],
     start: &[u16],
@@ -32,36 +29,49 @@ pub fn descend(
     allowance: u32,
     top: usize,
     high: u8,
-    numbers: &[u16; 8],
-    west: &[i32; 8],
-    east: &[i32; 8],
-    south: &[i32; 8],
-    north: &[i32; 8],
+    numbers: [u16; 8],
+    west: [i32; 8],
+    east: [i32; 8],
+    south: [i32; 8],
+    north: [i32; 8],
+    at: usize,
+    number: u16,
+    w: i32,
+    e: i32,
+    s: i32,
+    n: i32,
     steps: &mut u32,
-    bound: &mut u64,
+    known: &mut bool,
+    squared: &mut u64,
     places: &mut [u16; 8],
 ) -> bool
-    requires in_columns { InColumns (table x.now y.now kit.now) (tree (shape nodes listed level.now start.now count.now entries.now) (sides x_lo.now x_hi.now y_lo.now y_hi.now) kits.now) (boxes (table x.now y.now kit.now) (tree (shape nodes listed level.now start.now count.now entries.now) (sides x_lo.now x_hi.now y_lo.now y_hi.now) kits.now)) kinds m top high numbers.now (sides west.now east.now south.now north.now) (some bound.old) }
-    requires places_len { length places.old ≡ 8 }
-    ensures led { Led (table x.now y.now kit.now) (tree (shape nodes listed level.now start.now count.now entries.now) (sides x_lo.now x_hi.now y_lo.now y_hi.now) kits.now) (boxes (table x.now y.now kit.now) (tree (shape nodes listed level.now start.now count.now entries.now) (sides x_lo.now x_hi.now y_lo.now y_hi.now) kits.now)) (kept (table x.now y.now kit.now) m) (take m kinds) allowance m (members_at (levels_at m top high) numbers.now (sides west.now east.now south.now north.now)) top (stand steps.old false (kept_at bound.old places.old)) (stand steps.new result (kept_at bound.new places.new)) }
-    ensures places_len_2 { length places.new ≡ 8 }
+    requires at_bound { at < 8 }
+    requires passes { Passes (table x.now y.now kit.now) (tree (shape nodes listed level.now start.now count.now entries.now) (sides x_lo.now x_hi.now y_lo.now y_hi.now) kits.now) }
+    requires few { Few m kinds }
+    requires opened { Opened (table x.now y.now kit.now) (tree (shape nodes listed level.now start.now count.now entries.now) (sides x_lo.now x_hi.now y_lo.now y_hi.now) kits.now) (take m kinds) m (members_at (levels_at m top high) (set numbers at number) (sides (set west at w) (set east at e) (set south at s) (set north at n))) top (best_at known.old squared.old places.old) }
+    ensures { Led (table x.now y.now kit.now) (tree (shape nodes listed level.now start.now count.now entries.now) (sides x_lo.now x_hi.now y_lo.now y_hi.now) kits.now) (take m kinds) allowance m (members_at (levels_at m top high) (set numbers at number) (sides (set west at w) (set east at e) (set south at s) (set north at n))) top (stand steps.old false (best_at known.old squared.old places.old)) (stand steps.new result (best_at known.new squared.new places.new)) }
 {
+    let mut names = numbers;
+    let mut wests = west;
+    let mut easts = east;
+    let mut souths = south;
+    let mut norths = north;
+    members::put16(&mut names, at, number);
+    members::put32(&mut wests, at, w);
+    members::put32(&mut easts, at, e);
+    members::put32(&mut souths, at, s);
+    members::put32(&mut norths, at, n);
     let next = members::next_top(m, top);
     let lower = members::next_high(m, top, high);
     if lower == 0 {
         return groups::take_groups(
             level, start, count, entries, x, y, kit, x_lo, x_hi, y_lo, y_hi, kits, nodes, listed,
-            kinds, m, allowance, top, numbers, west, east, south, north, steps, bound, places,
+            kinds, m, allowance, top, &names, &wests, &easts, &souths, &norths, steps, known,
+            squared, places,
         );
     }
-    let o = groups::open_at(start, count, kinds, top, high, numbers[top]);
-    let was = *bound;
-    let mut rest: u64 = 18446744073709551615;
-    let mut names = *numbers;
-    let mut wests = *west;
-    let mut easts = *east;
-    let mut souths = *south;
-    let mut norths = *north;
+    let o = groups::open_at(start, count, kinds, top, high, names[top]);
+    let left = members::next_high(m, next, lower);
     let mut k: usize = 0;
     while k < o.many {
         let here = o.first + k;
@@ -72,22 +82,28 @@ pub fn descend(
             }
             let p = entries[here];
             let b = members::box_of(o.leaf, tree::wide16(p), x, y, x_lo, x_hi, y_lo, y_hi);
-            let limit = *bound;
-            if members::is_near(m, west, east, south, north, top, b, limit, was, &mut rest) {
-                members::put_member(
-                    &mut names,
-                    &mut wests,
-                    &mut easts,
-                    &mut souths,
-                    &mut norths,
-                    top,
-                    p,
-                    b,
-                );
-                if descend(
+            if members::is_near(
+                m, &wests, &easts, &souths, &norths, top, b, *known, *squared,
+            ) {
+                let bx = b.x;
+                let by = b.y;
+                if left == 0 {
+                    members::put16(&mut names, top, p);
+                    members::put32(&mut wests, top, bx.lo);
+                    members::put32(&mut easts, top, bx.hi);
+                    members::put32(&mut souths, top, by.lo);
+                    members::put32(&mut norths, top, by.hi);
+                    if groups::take_groups(
+                        level, start, count, entries, x, y, kit, x_lo, x_hi, y_lo, y_hi, kits,
+                        nodes, listed, kinds, m, allowance, next, &names, &wests, &easts, &souths,
+                        &norths, steps, known, squared, places,
+                    ) {
+                        return true;
+                    }
+                } else if descend(
                     level, start, count, entries, x, y, kit, x_lo, x_hi, y_lo, y_hi, kits, nodes,
-                    listed, kinds, m, allowance, next, lower, &names, &wests, &easts, &souths,
-                    &norths, steps, bound, places,
+                    listed, kinds, m, allowance, next, lower, names, wests, easts, souths, norths,
+                    top, p, bx.lo, bx.hi, by.lo, by.hi, steps, known, squared, places,
                 ) {
                     return true;
                 }

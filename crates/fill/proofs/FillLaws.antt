@@ -46,10 +46,6 @@ module _ {A : Type 0} {d : A} {f : ℕ → A} {before : List A} where
       tail = drop-set-lt to column (from - 1) v (omega arith) ∙ h.tail;
     }
 
-    -- what is filled with f is filled with what agrees with it
-    pub fill_as : {g : ℕ → A} → ((i : ℕ) → i < to → f i ≡ g i) → Filling d g before column from to
-    fill_as e = record { room = h.room; same = h.same; filled = λ i a b. h.filled i a b ∙ e i b; tail = h.tail }
-
     pub fill_done : {n : ℕ} → from ≡ 0 → to ≡ n → column ≡ tab f n ++ drop n before
     fill_done {n} z e = sym (take-append-drop n column) ∙ rw (front, sym e) (rw h.tail)
       where

@@ -1,16 +1,13 @@
-// The columns of a tree, filled one after the other: those of levels, runs and entries are our own tree's.
-ghost use Rattle.std.specs.Prelude.{◌≡◌, [], ◌++◌, ℕ, suc, ◌≤◌, ◌<◌, length, drop};
-ghost use Rattle.std.specs.Int.Bits.{bit_or};
-ghost use Rattle.plane.specs.Plane.{join_boxes};
-ghost use Rattle.plane.specs.declared.Box.{Box};
+// The columns of our own tree, filled one after the other.
+ghost use Rattle.std.specs.Prelude.{◌≡◌, [], ◌++◌, suc, ◌≤◌, ◌<◌, length, drop};
 ghost use Rattle.order.specs.Order.{Plotted};
 ghost use Rattle.order.specs.Tab.{tab};
-ghost use Rattle.table.specs.Table.{table, box_of, kit_of, Even};
-ghost use Rattle.tree.specs.Lent.{shape, sides};
+ghost use Rattle.table.specs.Table.{table, Even};
+ghost use Rattle.tree.specs.Lent.{shape};
 ghost use Rattle.levels.specs.Levels;
 ghost use Rattle.levels.specs.Levels.{level_at, start_at, count_at, spot_at};
-ghost use Rattle.levels.specs.Built.{entries_of};
-ghost use Rattle.fill.specs.Downward.{Downward, Follows, Filled};
+ghost use Rattle.levels.specs.Built.{box_at, kit_at, entries_of};
+ghost use Rattle.levels.specs.Laid.{Laid};
 
 // Internal: how many nodes there are over n places.
 pub fn count_nodes(n: usize) -> usize
@@ -104,7 +101,6 @@ pub fn fill_entries(x: &[i32], y: &[i32], listed: usize, entries: &mut [u16])
 }
 
 // Internal: the boxes and kit words of the nodes, from the last to the first: a run names places or later nodes.
-// The columns then say what follows the runs: there is such a thing, and only one (proofs/FollowLaws).
 pub fn fill_values(
     nodes: usize,
     x: &[i32],
@@ -120,11 +116,14 @@ pub fn fill_values(
     y_hi: &mut [i32],
     kits: &mut [u64],
 )
-    requires downward { Downward (length x.now) (shape nodes 0 level.now start.now count.now entries.now) }
-    requires even { Even (table x.now y.now kit.now) }
+    requires laid { Laid (table x.now y.now kit.now) (shape 0 0 level.now start.now count.now entries.now) }
+    requires nodes_value { (nodes ≡ Levels.nodes (length x.now)) × Even (table x.now y.now kit.now) }
     requires nodes_in_bounds { (nodes ≤ length x_lo.old) × ((nodes ≤ length x_hi.old) × ((nodes ≤ length y_lo.old) × ((nodes ≤ length y_hi.old) × (nodes ≤ length kits.old)))) }
-    ensures by_index { (f : ℕ → Box) → Follows join_boxes (box_of (table x.now y.now kit.now)) (shape nodes 0 level.now start.now count.now entries.now) f → Filled nodes f (sides x_lo.old x_hi.old y_lo.old y_hi.old) (sides x_lo.new x_hi.new y_lo.new y_hi.new) }
-    ensures by_index_2 { (f : ℕ → ℕ) → Follows bit_or (kit_of (table x.now y.now kit.now)) (shape nodes 0 level.now start.now count.now entries.now) f → kits.new ≡ tab f nodes ++ drop nodes kits.old }
+    ensures x_lo_after { x_lo.new ≡ tab (λ m. (box_at (table x.now y.now kit.now) m).x.lo) nodes ++ drop nodes x_lo.old }
+    ensures x_hi_after { x_hi.new ≡ tab (λ m. (box_at (table x.now y.now kit.now) m).x.hi) nodes ++ drop nodes x_hi.old }
+    ensures y_lo_after { y_lo.new ≡ tab (λ m. (box_at (table x.now y.now kit.now) m).y.lo) nodes ++ drop nodes y_lo.old }
+    ensures y_hi_after { y_hi.new ≡ tab (λ m. (box_at (table x.now y.now kit.now) m).y.hi) nodes ++ drop nodes y_hi.old }
+    ensures kits_after { kits.new ≡ tab (kit_at (table x.now y.now kit.now)) nodes ++ drop nodes kits.old }
 {
     let mut m = nodes;
     while 0 < m {

@@ -1,6 +1,6 @@
 -- A candidate in columns, and one of its members replaced.
 -- Assumes nothing.
-use mathlib.Core.Path.{◌≡◌, refl, sym, ap, ap₂, subst, ◌∙◌}
+use mathlib.Core.Path.{◌≡◌, refl, sym, ap, ap₂, ◌∙◌}
 use mathlib.Core.List.{List, [], ◌∷◌, ◌++◌, map, map-append}
 use Prim.Native.Nat.{ℕ, zero, suc, ◌≤◌, ◌<◌}
 use native.Mathlib.Decide.{ℕ_discrete}
@@ -13,8 +13,8 @@ use Rattle.order.specs.Tab.{tab}
 use Rattle.order.proofs.TabLaws.{length_tab, getD_tab}
 use Rattle.tree.specs.Tree.{Sides, box_at}
 use Rattle.tree.specs.Lent.{sides}
-use Rattle.members.specs.Boxes.{boxes_at, put}
-use Rattle.groups.specs.Members.{Member, nobody, boxes_of, members_at, Eight}
+use Rattle.members.specs.Boxes.{boxes_at, without}
+use Rattle.groups.specs.Members.{Member, nobody, boxes_of, members_at}
 use Rattle.groups.proofs.MemberLaws.{set_map}
 
 -- ---- lists
@@ -28,6 +28,12 @@ map_tab : {A B : Type 0} (f : A → B) (g : ℕ → A) (n : ℕ) → map f (tab 
 unfolding tab
 map_tab f g zero = refl
 map_tab f g (suc n) = map-append f (tab g n) (g n ∷ []) ∙ ap (λ k. k ++ (f (g n) ∷ [])) (map_tab f g n)
+
+without_set : {A : Type 0} (l : List A) (i : ℕ) (a : A) → without i l ≡ without i (set l i a)
+unfolding without
+without_set [] i a = refl
+without_set (b ∷ l) zero a = refl
+without_set (b ∷ l) (suc i) a = ap (λ k. b ∷ k) (without_set l i a)
 
 -- a list by its own elements
 tab_self : {A : Type 0} (l : List A) (d : A) (n : ℕ) → length l ≡ n → tab (λ i. get_or l i d) n ≡ l
@@ -50,6 +56,18 @@ module _ (levels numbers : List ℕ) (b : Sides) where
 
   pub numbers_of : (m : ℕ) → length numbers ≡ 8 → map (λ (a : Member). a.number) (take m (members_at levels numbers b)) ≡ take m numbers
   numbers_of m e = map_take _ m (members_at levels numbers b) ∙ ap (take m) (map_tab _ _ 8 ∙ tab_self numbers 0 8 e)
+
+-- each column has eight
+pub record Eight (numbers : List ℕ) (b : Sides) : Type 0 where
+  pub number : length numbers ≡ 8
+  pub x_lo : length b.x_lo ≡ 8
+  pub x_hi : length b.x_hi ≡ 8
+  pub y_lo : length b.y_lo ≡ 8
+  pub y_hi : length b.y_hi ≡ 8
+
+-- box i of the sides replaced
+abbrev pub put : Sides → ℕ → Box → Sides
+put b i d = sides (set b.x_lo i d.x.lo) (set b.x_hi i d.x.hi) (set b.y_lo i d.y.lo) (set b.y_hi i d.y.hi)
 
 pub eight_put : (numbers : List ℕ) (b : Sides) → Eight numbers b → (i p : ℕ) (d : Box) → Eight (set numbers i p) (put b i d)
 eight_put numbers b long i p d = record {
@@ -116,6 +134,20 @@ beside_put i {numbers} {b} {numbers'} {b'} s p d = record {
       ∙ s.box c;
 }
 
--- what holds of a candidate's columns holds of any that are the same
-pub moved : (P : ℕ → ℕ → List ℕ → Sides → Type 0) {i j v w : ℕ} {n l : List ℕ} {b d : Sides} → i ≡ j → v ≡ w → n ≡ l → b ≡ d → P i v n b → P j w l d
-moved P {i} {j} {v} {w} {n} {l} {b} {d} e f g h p = subst (P j w l) h (subst (λ (q : List ℕ). P j w q b) g (subst (λ (q : ℕ). P j q n b) f (subst (λ (q : ℕ). P q v n b) e p)))
+-- the boxes, one of them replaced
+boxes_put : (m i : ℕ) (numbers : List ℕ) (b : Sides) → Eight numbers b → m ≤ 8 → i < m → (d : Box) → take m (boxes_at (put b i d)) ≡ set (take m (boxes_at b)) i d
+boxes_put m i numbers b long few h d =
+    let levels : List ℕ = replicate 8 0 in
+    sym (boxes_of_lem (set levels i 0) (set numbers i 0) (put b i d) m)
+    ∙ ap (λ (l : List Member). boxes_of (take m l)) (members_set levels numbers b refl long i (omega arith) 0 0 d)
+    ∙ ap boxes_of (take-set-lt m (members_at levels numbers b) i (record { level = 0; number = 0; at = d }) h)
+    ∙ sym (set_map (λ (a : Member). a.at) (take m (members_at levels numbers b)) i (record { level = 0; number = 0; at = d }))
+    ∙ ap (λ (l : List Box). set l i d) (boxes_of_lem levels numbers b m)
+
+-- the others are the same
+pub others_same : (m i : ℕ) {numbers : List ℕ} {b : Sides} {numbers' : List ℕ} {b' : Sides} → Beside i numbers b numbers' b' → Eight numbers b → Eight numbers' b' → m ≤ 8 → i < m → without i (take m (boxes_at b)) ≡ without i (take m (boxes_at b'))
+others_same m i {numbers} {b} {numbers'} {b'} s long long' few h =
+    let d = box_at b i in
+    without_set (take m (boxes_at b)) i d
+    ∙ ap (without i) (sym (boxes_put m i numbers b long few h d) ∙ ap (λ (c : Sides). take m (boxes_at c)) (s.box d) ∙ boxes_put m i numbers' b' long' few h d)
+    ∙ sym (without_set (take m (boxes_at b')) i d)

@@ -9,5 +9,4 @@ pub mod MemberLaws
 pub mod ColumnLaws
 pub mod OpenLaws
 pub mod NextLaws
-pub mod OpenedLaws
 pub mod LoopLaws

@@ -1,21 +1,20 @@
 -- Members that stand for the things of a candidate.
 -- Assumes nothing.
-use mathlib.Core.Path.{◌≡◌, refl, sym, ap, ap₂, ◌∙◌}
-use mathlib.Core.Bool.{Bool, true, false}
-use mathlib.Core.List.{List, [], ◌∷◌, map}
+use mathlib.Core.Path.{◌≡◌, refl, sym, ap, ◌∙◌}
+use mathlib.Core.List.{List, [], ◌∷◌, map, map-map}
 use Prim.Native.Nat.{ℕ, zero, suc, ◌≤◌, ◌<◌}
 use native.Mathlib.Nat.{not-suc-le-zero, le_of_suc-le-suc}
 use native.Mathlib.Omega.{arith}
-use lib.Dec.{eqb}
-use lib.ListN.{length, get_or, set}
-use Rattle.plane.specs.declared.Box.{Box}
-use Rattle.table.specs.Table.{Table, box_of}
-use Rattle.tree.specs.Tree.{Tree, Thing, place, thing, level}
+use lib.ListN.{length, get_or, take, set, length-map}
+use lib.Seq.{length-take-le, get_or-take, take-set-lt}
+use Rattle.table.specs.Table.{Table}
+use Rattle.tree.specs.Tree.{Tree, Thing, place, level}
 use Rattle.closest.specs.Group.{spread, diameter}
 use Rattle.closest.specs.Candidate.{number, member, topmost, boxes_in}
+use Rattle.closest.specs.Walk.{boxes}
 use Rattle.closest.proofs.TopLaws.{all_places}
 use Rattle.closest.proofs.DropLaws.{own_boxes}
-use Rattle.groups.specs.Members.{Member, Placed, nobody, boxes_of, thing_of, things_of}
+use Rattle.groups.specs.Members.{Member, member_of, members_of, Placed, nobody, boxes_of}
 
 -- ---- lists
 
@@ -30,34 +29,45 @@ module _ {A B : Type 0} (f : A → B) where
   set_map (b ∷ l) zero a = refl
   set_map (b ∷ l) (suc i) a = ap (λ k. f b ∷ k) (set_map l i a)
 
--- ---- members that stand for things
+-- ---- members
 
-pub number_of : (leaf : Bool) (e : ℕ) → number (thing leaf e) ≡ e
-number_of true e = refl
-number_of false e = refl
-
--- their boxes, in the places of the kinds
-pub boxes_are : (box : ℕ → Thing → Box) (kinds : List ℕ) (a : List Member) → length a ≡ length kinds → ((i : ℕ) → i < length a → (get_or a i nobody).at ≡ box (get_or kinds i 0) (thing_of (get_or a i nobody))) →
-    boxes_of a ≡ boxes_in box kinds (things_of a)
+own : (t : Table) (w : Tree) (kinds : List ℕ) (c : List Thing) → length kinds ≡ length c → boxes_of (members_of t w c) ≡ boxes_in (boxes t w) kinds c
 unfolding boxes_in
-boxes_are box [] [] e h = refl
-boxes_are box [] (x ∷ a) e h = absurd (omega arith)
-boxes_are box (k ∷ kinds) [] e h = absurd (omega arith)
-boxes_are box (k ∷ kinds) (x ∷ a) e h = ap₂ (λ b l. b ∷ l) (h 0 (omega arith)) (boxes_are box kinds a (omega arith) (λ i l. h (suc i) (omega arith)))
+own t w [] [] e = refl
+own t w [] (x ∷ c) e = absurd (omega arith)
+own t w (k ∷ kinds) [] e = absurd (omega arith)
+own t w (k ∷ kinds) (x ∷ c) e = ap (λ l. boxes t w k x ∷ l) (own t w kinds c (omega arith))
 
-pub numbers_are : (a : List Member) → map (λ (x : Member). x.number) a ≡ map number (things_of a)
-numbers_are [] = refl
-numbers_are (x ∷ a) = ap₂ (λ n l. n ∷ l) (sym (number_of (eqb x.level 0) x.number)) (numbers_are a)
+-- the first m members stand for the things of c
+pub record StandFor (t : Table) (w : Tree) (m : ℕ) (cand : List Member) (c : List Thing) : Type 0 where
+  pub long : m ≤ length cand
+  pub so : take m cand ≡ members_of t w c
 
-pub levels_are : (tree : Tree) (a : List Member) → ((i : ℕ) → i < length a → (get_or a i nobody).level ≡ level tree.shape (thing_of (get_or a i nobody))) → map (λ (x : Member). x.level) a ≡ map (level tree.shape) (things_of a)
-levels_are tree [] h = refl
-levels_are tree (x ∷ a) h = ap₂ (λ n l. n ∷ l) (h 0 (omega arith)) (levels_are tree a (λ i l. h (suc i) (omega arith)))
+module _ {t : Table} {w : Tree} {m : ℕ} {cand : List Member} {c : List Thing} (f : StandFor t w m cand c) where
+  pub size : length c ≡ m
+  size = sym (length-map c (member_of t w)) ∙ ap length (sym f.so) ∙ length-take-le m cand f.long
+
+  pub stands_at : (i : ℕ) → i < m → get_or cand i nobody ≡ member_of t w (member c i)
+  stands_at i h =
+      sym (get_or-take m cand i nobody h) ∙ ap (λ l. get_or l i nobody) f.so ∙ get_d_map (member_of t w) c i (place 0) nobody (omega (arith, size))
+
+  pub boxes_are : (kinds : List ℕ) → length kinds ≡ length c → boxes_of (take m cand) ≡ boxes_in (boxes t w) kinds c
+  boxes_are kinds e = ap boxes_of f.so ∙ own t w kinds c e
+
+  pub numbers_are : map (λ (a : Member). a.number) (take m cand) ≡ map number c
+  numbers_are = ap (map (λ (a : Member). a.number)) f.so ∙ map-map _ _ c
+
+  pub levels_are : map (λ (a : Member). a.level) (take m cand) ≡ map (level w.shape) c
+  levels_are = ap (map (λ (a : Member). a.level)) f.so ∙ map-map _ _ c
+
+  pub replaced_so : (i : ℕ) (y : Thing) → i < m → take m (set cand i (member_of t w y)) ≡ members_of t w (set c i y)
+  replaced_so i y h = take-set-lt m cand i (member_of t w y) h ∙ ap (λ l. set l i (member_of t w y)) f.so ∙ set_map (member_of t w) c i y
 
 -- ---- a whole candidate
 
--- where all are places, whose boxes are their own, the spread is the group's diameter
-pub whole_spread : (t : Table) (w : Tree) (box : ℕ → Thing → Box) → ((k q : ℕ) → box k (place q) ≡ box_of t q) → (kinds : List ℕ) (c : List Thing) → length kinds ≡ length c →
-    Placed w c → level w.shape (member c (topmost w.shape c)) ≡ 0 → spread (boxes_in box kinds c) ≡ diameter t (map number c)
+-- where all are places, the spread is the group's diameter
+pub whole_spread : (t : Table) (w : Tree) (kinds : List ℕ) (c : List Thing) → length kinds ≡ length c →
+    Placed w c → level w.shape (member c (topmost w.shape c)) ≡ 0 → spread (boxes_in (boxes t w) kinds c) ≡ diameter t (map number c)
 unfolding diameter
-whole_spread t w box own kinds c e placed top =
-    ap spread (own_boxes t box own kinds c (sym e) (λ i h. placed i h (all_places w.shape c top i)))
+whole_spread t w kinds c e placed top =
+    ap spread (own_boxes t (boxes t w) (λ k q. refl) kinds c (sym e) (λ i h. placed i h (all_places w.shape c top i)))

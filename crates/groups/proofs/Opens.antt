@@ -12,11 +12,11 @@ use Rattle.groups.specs.Members.{Member, things_of}
 use Rattle.groups.specs.declared.Opening.{Opening}
 
 -- the member to replace, a node; its kind and its run
-pub record Opens (tree : Tree) (kinds : List ℕ) (m : ℕ) (cand : List Member) (top : ℕ) (o : Opening) : Type 0 where
-  pub inside : top < m
-  pub is : member (things_of (take m cand)) top ≡ node o.node
+pub record Opens (tree : Tree) (kinds : List ℕ) (m : ℕ) (cand : List Member) (o : Opening) : Type 0 where
+  pub inside : o.top < m
+  pub is : member (things_of (take m cand)) o.top ≡ node o.node
   pub there : o.node < tree.shape.nodes
-  pub kind : o.kind ≡ get_or kinds top 0
+  pub kind : o.kind ≡ get_or kinds o.top 0
   pub leaf : o.leaf ≡ eqb (level_of tree.shape o.node) 1
   pub first : o.first ≡ start_of tree.shape o.node
   pub many : o.many ≡ count_of tree.shape o.node

@@ -7,20 +7,19 @@ use Prim.Native.Nat.{ℕ, ◌+◌, ◌<◌}
 use native.Mathlib.Omega.{arith}
 use lib.ListN.{length, take, get_or}
 use lib.Seq.{get_or-take}
-use Rattle.plane.specs.declared.Box.{Box}
 use Rattle.table.specs.Table.{Table}
-use Rattle.tree.specs.Tree.{Tree, Thing, place, thing, count_of}
+use Rattle.tree.specs.Tree.{Tree, place, thing, count_of}
 use Rattle.closest.specs.Candidate.{entry}
-use Rattle.groups.specs.Members.{Member, Real, Few, Walkable}
+use Rattle.groups.specs.Members.{Member, Real, Few, Passes}
 use Rattle.groups.specs.declared.Opening.{Opening}
 use Rattle.groups.proofs.Opens.{Opens}
 use Rattle.groups.proofs.EntryLaws.{Reads, reads_of, entry_listed, entry_few, entry_real}
 
 -- a wanted kind is one of 64
-pub kind_small : {tree : Tree} (kinds : List ℕ) (m : ℕ) {cand : List Member} {top : ℕ} {o : Opening} → Opens tree (take m kinds) m cand top o → Few m kinds → o.kind < 64
-kind_small kinds m {top = top} opens few = omega (arith, opens.kind ∙ get_or-take m kinds top 0 opens.inside, few.small top opens.inside)
+pub kind_small : {tree : Tree} (kinds : List ℕ) (m : ℕ) {cand : List Member} {o : Opening} → Opens tree (take m kinds) m cand o → Few m kinds → o.kind < 64
+kind_small kinds m {o = o} opens few = omega (arith, opens.kind ∙ get_or-take m kinds o.top 0 opens.inside, few.small o.top opens.inside)
 
-module _ {t : Table} {tree : Tree} {box : ℕ → Thing → Box} (p : Walkable t tree box) {kinds : List ℕ} {m : ℕ} {cand : List Member} {top : ℕ} {o : Opening} (opens : Opens tree kinds m cand top o) (k : ℕ) (b : k < o.many) where
+module _ {t : Table} {tree : Tree} (p : Passes t tree) {kinds : List ℕ} {m : ℕ} {cand : List Member} {o : Opening} (opens : Opens tree kinds m cand o) (k : ℕ) (b : k < o.many) where
   pub in_run : k < count_of tree.shape o.node
   in_run = omega (arith, b, opens.many)
 

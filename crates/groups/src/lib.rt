@@ -1,18 +1,17 @@
 // A candidate that is opened, and the groups that come of it.
 ghost use Rattle.std.specs.Prelude.{◌≡◌, false, ◌+◌, ◌<◌, eqb, length, take, get_or};
-ghost use Rattle.std.proofs.Math.Option.{some};
 ghost use Rattle.table.specs.Table.{table};
 ghost use Rattle.tree.specs.Lent.{shape, sides, tree};
-ghost use Rattle.closest.specs.Walk.{boxes};
 ghost use Rattle.walks.specs.Allowance.{stand};
 ghost use Rattle.members.specs.Levels.{levels_at};
-ghost use Rattle.members.specs.Kept.{kept_at, kept};
-ghost use Rattle.groups.specs.Members.{members_at};
-ghost use Rattle.groups.specs.Opening.{InColumns, Led};
+ghost use Rattle.members.specs.Best.{best_at};
+ghost use Rattle.groups.specs.Members.{members_at, Few, Passes};
+ghost use Rattle.groups.specs.Opening.{Opened, Led};
 
 // What is kept of an opened candidate.
 #[derive(Drop)]
 pub struct Opening {
+    pub top: usize,
     pub node: usize,
     pub kind: usize,
     pub leaf: bool,
@@ -30,10 +29,11 @@ pub fn open_at(
     number: u16,
 ) -> Opening
     requires { (number < length start.now) × (number < length count.now) }
-    ensures { result ≡ record { node = number; kind = get_or kinds top 0; leaf = eqb level 1; first = get_or start.now number 0; many = get_or count.now number 0 } }
+    ensures { result ≡ record { top = top; node = number; kind = get_or kinds top 0; leaf = eqb level 1; first = get_or start.now number 0; many = get_or count.now number 0 } }
 {
     let n = tree::wide16(number);
     Opening {
+        top,
         node: n,
         kind: members::kind_at(kinds, top),
         leaf: level == 1,
@@ -43,7 +43,6 @@ pub fn open_at(
 }
 
 // Internal: opens a candidate at its last member, a leaf, where the others are places, and takes the groups that come of it; says whether the allowance was spent.
-// The candidate was tested by the best known at the start, which stays until a group is offered: from then on the pairs of the members that stay are tested again for each group, by their largest distance, which is taken once.
 pub fn take_groups(
     level: &[u8],
     start: &[u16],
@@ -69,17 +68,18 @@ pub fn take_groups(
     south: &[i32; 8],
     north: &[i32; 8],
     steps: &mut u32,
-    bound: &mut u64,
+    known: &mut bool,
+    squared: &mut u64,
     places: &mut [u16; 8],
 ) -> bool
-    requires in_columns { InColumns (table x.now y.now kit.now) (tree (shape nodes listed level.now start.now count.now entries.now) (sides x_lo.now x_hi.now y_lo.now y_hi.now) kits.now) (boxes (table x.now y.now kit.now) (tree (shape nodes listed level.now start.now count.now entries.now) (sides x_lo.now x_hi.now y_lo.now y_hi.now) kits.now)) kinds m top 1 numbers.now (sides west.now east.now south.now north.now) (some bound.old) }
-    requires top_value { (top + 1 ≡ m) × (length places.old ≡ 8) }
-    ensures led { Led (table x.now y.now kit.now) (tree (shape nodes listed level.now start.now count.now entries.now) (sides x_lo.now x_hi.now y_lo.now y_hi.now) kits.now) (boxes (table x.now y.now kit.now) (tree (shape nodes listed level.now start.now count.now entries.now) (sides x_lo.now x_hi.now y_lo.now y_hi.now) kits.now)) (kept (table x.now y.now kit.now) m) (take m kinds) allowance m (members_at (levels_at m top 1) numbers.now (sides west.now east.now south.now north.now)) top (stand steps.old false (kept_at bound.old places.old)) (stand steps.new result (kept_at bound.new places.new)) }
-    ensures places_len { length places.new ≡ 8 }
+    requires passes { Passes (table x.now y.now kit.now) (tree (shape nodes listed level.now start.now count.now entries.now) (sides x_lo.now x_hi.now y_lo.now y_hi.now) kits.now) }
+    requires few { Few m kinds × (top + 1 ≡ m) }
+    requires opened { Opened (table x.now y.now kit.now) (tree (shape nodes listed level.now start.now count.now entries.now) (sides x_lo.now x_hi.now y_lo.now y_hi.now) kits.now) (take m kinds) m (members_at (levels_at m top 1) numbers.now (sides west.now east.now south.now north.now)) top (best_at known.old squared.old places.old) }
+    requires numbers_len { length numbers.now ≡ 8 }
+    ensures { Led (table x.now y.now kit.now) (tree (shape nodes listed level.now start.now count.now entries.now) (sides x_lo.now x_hi.now y_lo.now y_hi.now) kits.now) (take m kinds) allowance m (members_at (levels_at m top 1) numbers.now (sides west.now east.now south.now north.now)) top (stand steps.old false (best_at known.old squared.old places.old)) (stand steps.new result (best_at known.new squared.new places.new)) }
 {
     let o = open_at(start, count, kinds, top, 1, numbers[top]);
     let mut rest: u64 = 18446744073709551615;
-    let mut kept: u64 = 0;
     let mut k: usize = 0;
     while k < o.many {
         let p = entries[o.first + k];
@@ -90,18 +90,18 @@ pub fn take_groups(
                 return true;
             }
             let b = tree::box_at(x, x, y, y, e);
-            let limit = *bound;
-            let row = members::row_from(m, west, east, south, north, top, b, limit, kept);
+            let limit = members::limit_of(*known, *squared);
+            let row = members::row_of(m, west, east, south, north, top, b, limit);
             if row <= limit {
                 rest = members::rest_of(m, west, east, south, north, top, rest);
-                kept = rest;
                 members::offer(
                     m,
                     numbers,
                     top,
                     p,
                     members::larger(rest, row),
-                    bound,
+                    known,
+                    squared,
                     places,
                 );
             }

@@ -1,6 +1,6 @@
 -- Columns that hold the builder's levels, runs and entry list: that they do, what their runs name, and what a run comes to.
 -- Assumes nothing.
-use mathlib.Core.Path.{◌≡◌, refl, sym, ap, ap₂, ◌∙◌}
+use mathlib.Core.Path.{◌≡◌, sym, ap, ap₂, ◌∙◌}
 use mathlib.Core.Bool.{Bool, true, false, cond}
 use mathlib.Core.List.{List, ◌++◌}
 use Prim.Native.Nat.{ℕ, zero, suc, ◌+◌, ◌-◌, ◌*◌, ◌≤◌, ◌<◌}
@@ -16,12 +16,12 @@ use Rattle.order.specs.Order.{order}
 use Rattle.order.specs.Tab.{tab}
 use Rattle.order.proofs.OrderLaws.{length_order, order_below}
 use Rattle.order.proofs.TabLaws.{length_tab, getD_tab}
-use Rattle.tree.specs.Tree.{Shape, level_of, start_of, count_of, end_of, Thing, place, node, thing, by_sort}
-use Rattle.tree.specs.Lent.{shape, InRun, run_says}
+use Rattle.tree.specs.Tree.{Shape, level_of, start_of, count_of, end_of, Thing, place, node, thing}
+use Rattle.tree.specs.Lent.{InRun, run_says}
 use Rattle.levels.specs.Levels.{nodes, listed, level_at, rank_at, start_at, count_at}
 use Rattle.levels.specs.Built.{value, value_at, entries_of}
+use Rattle.levels.specs.Laid.{Says, Laid}
 use Rattle.levels.proofs.LevelLaws.{height_low, size_none, size_up, first_next}
-use Rattle.levels.proofs.Laid.{Says, Laid}
 use Rattle.levels.proofs.RankLaws.{Ranked, ranked, before, is_node, level_is, rank_is, count_low, count_high, named_at, run_inside}
 
 -- a column that begins with what a rule says
@@ -45,18 +45,18 @@ pub length_entries : (t : Table) → places t ≤ 4096 → length (entries_of t)
 length_entries t few = let n = places t in omega (arith, entries_long t, first_next n few 0 (height_low n few), size_up n 0, size_none n)
 
 -- columns that begin with the builder's are laid
-pub laid_of : {t : Table} {k j : ℕ} {level start count entries : List ℕ} → places t ≤ 4096 → k ≡ nodes (places t) → (l₀ s₀ c₀ e₀ : List ℕ) →
-    level ≡ tab (level_at (places t)) k ++ l₀ →
-    start ≡ tab (start_at (places t)) k ++ s₀ →
-    count ≡ tab (count_at (places t)) k ++ c₀ →
-    entries ≡ entries_of t ++ e₀ →
-    Laid t (shape k j level start count entries)
-laid_of {t} {entries = entries} few q l₀ s₀ c₀ e₀ a b c d = record {
+pub laid_of : {t : Table} {s : Shape} {k : ℕ} → places t ≤ 4096 → k ≡ nodes (places t) → (l₀ s₀ c₀ e₀ : List ℕ) →
+    s.level ≡ tab (level_at (places t)) k ++ l₀ →
+    s.start ≡ tab (start_at (places t)) k ++ s₀ →
+    s.count ≡ tab (count_at (places t)) k ++ c₀ →
+    s.entries ≡ entries_of t ++ e₀ →
+    Laid t s
+laid_of {t} {s} few q l₀ s₀ c₀ e₀ level start count entries = record {
   few = few;
-  level = says_tab l₀ q a;
-  start = says_tab s₀ q b;
-  count = says_tab c₀ q c;
-  long = omega (arith, ap length d, length-append (entries_of t) e₀, length_entries t few);
+  level = says_tab l₀ q level;
+  start = says_tab s₀ q start;
+  count = says_tab c₀ q count;
+  long = omega (arith, ap length entries, length-append (entries_of t) e₀, length_entries t few);
   node = λ i l. within i (omega (arith, entries_long t)) ∙ get_or-append (tab suc k) (order t.x t.y) 0 i (omega (arith, length_tab suc k)) ∙ getD_tab suc k i 0 (omega arith);
   place = λ r l. within (k + r) (omega (arith, entries_long t)) ∙ ap (λ (j : ℕ). get_or (entries_of t) (j + r) 0) (sym (length_tab suc k)) ∙ get_or-append-add (tab suc k) (order t.x t.y) r 0;
 }
@@ -64,8 +64,8 @@ laid_of {t} {entries = entries} few q l₀ s₀ c₀ e₀ a b c d = record {
     k : ℕ
     k = nodes (places t) - 1
 
-    within : (i : ℕ) → i < length (entries_of t) → get_or entries i 0 ≡ get_or (entries_of t) i 0
-    within i l = ap (λ z. get_or z i 0) d ∙ get_or-append (entries_of t) e₀ 0 i l
+    within : (i : ℕ) → i < length (entries_of t) → get_or s.entries i 0 ≡ get_or (entries_of t) i 0
+    within i l = ap (λ z. get_or z i 0) entries ∙ get_or-append (entries_of t) e₀ 0 i l
 
 -- joined from one number on, and from another
 joined_moved : {A : Type 0} (op : A → A → A) (f g : ℕ → A) (a b k : ℕ) → ((j : ℕ) → j ≤ k → f (a + j) ≡ g (b + j)) → joined op f a k ≡ joined op g b k
@@ -82,10 +82,6 @@ pub data Entry (t : Table) (i : ℕ) : ℕ → ℕ → Thing → Type 0 where
 entry_below : {t : Table} {i k r : ℕ} → places t ≤ 4096 → (leaf : Bool) (e : ℕ) → Entry t i k r (thing leaf e) → e < cond leaf (places t) (nodes (places t))
 entry_below {t} few true e (of_place {r} l _) = order_below t.x t.y few r l
 entry_below few false e (of_node o) = is_node few o
-
--- a node is named by the index before it
-entry_node : {t : Table} {i k r : ℕ} (e : ℕ) → Entry t i k r (node e) → e ≡ suc i
-entry_node e (of_node o) = refl
 
 module _ {t : Table} {s : Shape} (a : Laid t s) (m : ℕ) (l : m < nodes (places t)) where
   abbrev n : ℕ
@@ -111,35 +107,36 @@ module _ {t : Table} {s : Shape} (a : Laid t s) (m : ℕ) (l : m < nodes (places
       let q : start_at n m + (i - start_at n m) ≡ i = omega (arith, a.start.at m l) in
       (_, rw q at (entry_of (ranked a.few m l) (i - start_at n m) (omega (arith, a.start.at m l, a.count.at m l))))
 
-  -- the entries of a leaf are places, those of another node are nodes
-  pub in_run : InRun (cond (eqb (level_of s m) 1) n (nodes n)) s.entries (start_of s m) (count_of s m)
-  in_run =
+  in_run : (leaf : Bool) → eqb (level_of s m) 1 ≡ leaf → InRun (cond leaf n (nodes n)) s.entries (start_of s m) (count_of s m)
+  in_run leaf e =
       let o = ranked a.few m l in
       record {
         some = omega (arith, a.count.at m l, count_low a.few o);
         inside = omega (arith, a.start.at m l, a.count.at m l, run_inside a.few o, a.long);
-        known = λ i b c. entry_below a.few (eqb (level_of s m) 1) (get_or s.entries i 0) (entry_at i b c).1;
+        known = λ i b c. entry_below a.few leaf (get_or s.entries i 0) (rw e at (entry_at i b c).1);
       }
 
-  -- and these nodes come after m
-  pub in_later : (level_of s m ≡ 1 → ⊥) → (i : ℕ) → start_of s m ≤ i → i < end_of s m → m < get_or s.entries i 0
-  in_later h i b c =
-      let o = ranked a.few m l in
-      let e = entry_node (get_or s.entries i 0) (rw (ne_eqb (level_of s m) 1 h) at (entry_at i b c).1) in
-      omega (arith, e, before a.few o, named_at a.few o (i - start_at n m), a.start.at m l)
+  -- the entries of a leaf are places, those of another node are nodes
+  pub leaf_in : eqb (level_of s m) 1 ≡ true → InRun (places t) s.entries (start_of s m) (count_of s m)
+  leaf_in e = in_run true e
 
-  -- a run comes to the builder's value, where g says it of each place
-  pub run_value : {A : Type 0} (op : A → A → A) (g : ℕ → A) → run_says op (by_sort g (value_at op t g)) (eqb (level_of s m) 1) s.entries (start_of s m) (count_of s m) ≡ value_at op t g m
+  pub node_in : eqb (level_of s m) 1 ≡ false → InRun (nodes (places t)) s.entries (start_of s m) (count_of s m)
+  node_in e = in_run false e
+
+  -- a run comes to the builder's value, where f says g of each place and the builder's value of each later node
+  pub run_value : {A : Type 0} (op : A → A → A) (g : ℕ → A) (f : Thing → A) → ((p : ℕ) → f (place p) ≡ g p) → ((q : ℕ) → m < q → q < nodes (places t) → f (node q) ≡ value_at op t g q) →
+      run_says op f (eqb (level_of s m) 1) s.entries (start_of s m) (count_of s m) ≡ value_at op t g m
   unfolding value
-  run_value {A} op g =
+  run_value {A} op g f h k =
       let o = ranked a.few m l in
       rw (a.start.at m l, a.count.at m l)
-      (joined_moved op _ (value op n by_rank (level_at n m - 1)) (start_at n m) (16 * rank_at n m) (count_at n m - 1) (λ j b. says (entry_of o j (omega (arith, count_low a.few o))))
+      (joined_moved op _ (value op n by_rank (level_at n m - 1)) (start_at n m) (16 * rank_at n m) (count_at n m - 1)
+      (λ j b. says (omega (arith, before a.few o, named_at a.few o j)) (entry_of o j (omega (arith, count_low a.few o))))
       ∙ ap (λ (k : ℕ). value op n by_rank k (rank_at n m)) (sym (level_is a.few o)))
     where
       by_rank : ℕ → A
       by_rank r = g (get_or (order t.x t.y) r 0)
 
-      says : {i k r : ℕ} {x : Thing} → Entry t i k r x → by_sort g (value_at op t g) x ≡ value op n by_rank k r
-      says (of_place _ _) = refl
-      says (of_node o) = ap₂ (value op n by_rank) (level_is a.few o) (rank_is a.few o)
+      says : {i k r : ℕ} {x : Thing} → m < suc i → Entry t i k r x → f x ≡ value op n by_rank k r
+      says b (of_place {r} _ _) = h (get_or (order t.x t.y) r 0)
+      says {i} b (of_node o) = k (suc i) b (is_node a.few o) ∙ ap₂ (value op n by_rank) (level_is a.few o) (rank_is a.few o)

@@ -2,6 +2,5 @@
 pub mod LevelLaws
 pub mod RankLaws
 pub mod ChainLaws
-pub mod Laid
 pub mod LaidLaws
 pub mod Soundings

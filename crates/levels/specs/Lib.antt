@@ -1,3 +1,4 @@
 -- Our own tree.
 pub mod Levels
 pub mod Built
+pub mod Laid

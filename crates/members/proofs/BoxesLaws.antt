@@ -1,10 +1,10 @@
 -- Laws of lists of boxes: all but one, all in range, and how far they are spread.
 -- Assumes nothing.
 use mathlib.Core.Path.{◌≡◌, refl, sym, ap, subst, ◌∙◌}
-use mathlib.Core.Bool.{Bool, true, false, cond, true≢false, false≢true}
+use mathlib.Core.Bool.{true, false}
 use mathlib.Core.List.{List, [], ◌∷◌}
 use Prim.Native.Nat.{ℕ, zero, suc, ◌+◌, ◌-◌, ◌≤◌, ◌<◌, max}
-use native.Mathlib.Nat.{not-suc-le-zero, le_of_suc-le-suc, le_trans, max-zero}
+use native.Mathlib.Nat.{not-suc-le-zero, le_of_suc-le-suc, max-zero}
 use native.Mathlib.Numerals.{add-one}
 use native.Mathlib.Decide.{dec_lt}
 use native.Mathlib.Omega.{arith}
@@ -13,16 +13,13 @@ use lib.IntN.{pos}
 use lib.ListN.{length, get_or, take, drop, set, drop_of_length-le}
 use lib.Seq.{length-take-le, get_or-take, drop-cons}
 use borrow.Author.Tests.{lt-ltb, le-ltb}
-use Rattle.plane.specs.Plane.{square, apart, Ranged, point}
+use Rattle.plane.specs.Plane.{apart, Ranged, point}
 use Rattle.plane.specs.declared.Box.{Box}
-use Rattle.plane.proofs.WholeLaws.{square_le}
-use Rattle.plane.proofs.GapLaws.{gap_ranged}
 use Rattle.plane.proofs.BoxLaws.{apart_comm}
 use Rattle.order.proofs.TabLaws.{length_tab, getD_tab}
 use Rattle.tree.specs.Tree.{Sides, box_at}
 use Rattle.closest.specs.Group.{farthest, spread}
 use Rattle.members.specs.Boxes.{boxes_at, without, skip, AllRanged}
-use Rattle.members.specs.Kept.{largest, within}
 
 -- a box that is never read
 abbrev nowhere : Box
@@ -71,27 +68,10 @@ ranged_at [] i d r h = absurd (not-suc-le-zero h)
 ranged_at (b ∷ l) zero d r h = r.0
 ranged_at (b ∷ l) (suc i) d r h = ranged_at l i d r.1 (le_of_suc-le-suc h)
 
--- they lie less far apart than the largest number of 64 bits
-squares_le : (a b c d : ℕ) → a ≤ c → b ≤ d → square a + square b ≤ square c + square d
-squares_le a b c d h k = omega (arith, square_le a c h, square_le b d k)
-
-apart_small : (b c : Box) → Ranged b → Ranged c → apart b c < largest
-apart_small b c r w = omega (arith, squares_le _ _ 4000000 4000000 (gap_ranged b.x c.x r.x w.x) (gap_ranged b.y c.y r.y w.y))
-
-farthest_small : (b : Box) (l : List Box) → Ranged b → AllRanged l → farthest b l < largest
-unfolding farthest
-farthest_small b [] r w = omega arith
-farthest_small b (c ∷ l) r w = omega (arith, apart_small b c r w.0, farthest_small b l r w.1)
-
-pub spread_small : (l : List Box) → AllRanged l → spread l < largest
-unfolding spread
-spread_small [] r = omega arith
-spread_small (b ∷ l) r = omega (arith, farthest_small b l r.0 r.1, spread_small l r.1)
-
 -- ---- the first m of eight boxes
 
 module _ (m : ℕ) (b : Sides) (most : m ≤ 8) where
-  pub boxes_length : length (take m (boxes_at b)) ≡ m
+  boxes_length : length (take m (boxes_at b)) ≡ m
   boxes_length = length-take-le m (boxes_at b) (omega (arith, length_tab (box_at b) 8))
 
   boxes_at_lem : (i : ℕ) → i < m → get_or (take m (boxes_at b)) i nowhere ≡ box_at b i
@@ -167,31 +147,3 @@ spread_set [] i b h = absurd (not-suc-le-zero h)
 spread_set (a ∷ l) zero b h = omega arith
 spread_set (a ∷ l) (suc i) b h =
     rw (farthest_set a b l i (le_of_suc-le-suc h), spread_set l i b (le_of_suc-le-suc h), apart_comm b a) (omega arith)
-
--- whether it is above q is for the pairs of the new box to say, where the others are not
-pub above_set : (l : List Box) (i : ℕ) (b : Box) (q : ℕ) → i < length l → spread (without i l) ≤ q → ltb q (farthest b (without i l)) ≡ ltb q (spread (set l i b))
-above_set l i b q h d = go (dec_lt q (farthest b (without i l)))
-  where
-    go : Dec (q < farthest b (without i l)) → ltb q (farthest b (without i l)) ≡ ltb q (spread (set l i b))
-    go (yes f) = lt-ltb q _ f ∙ sym (lt-ltb q (spread (set l i b)) (omega (arith, spread_set l i b h)))
-    go (no f) = le-ltb q _ (omega arith) ∙ sym (le-ltb q (spread (set l i b)) (omega (arith, spread_set l i b h)))
-
--- it is, where the others are
-pub above_rest : (l : List Box) (i : ℕ) (b : Box) (q : ℕ) → i < length l → q < spread (without i l) → ltb q (spread (set l i b)) ≡ true
-above_rest l i b q h d = lt-ltb q (spread (set l i b)) (omega (arith, spread_set l i b h))
-
--- ---- what the test of a distance says
-
-pub within_so : (limit d : ℕ) → within limit d ≡ true → d ≤ limit
-within_so limit d h = go (dec_lt limit d)
-  where
-    go : Dec (limit < d) → d ≤ limit
-    go (yes q) = absurd (false≢true (sym (ap (λ (v : Bool). cond v false true) (lt-ltb limit d q)) ∙ h))
-    go (no q) = omega arith
-
-pub beyond_so : (limit d : ℕ) → within limit d ≡ false → limit < d
-beyond_so limit d h = go (dec_lt limit d)
-  where
-    go : Dec (limit < d) → limit < d
-    go (yes q) = q
-    go (no q) = absurd (true≢false (sym (ap (λ (v : Bool). cond v false true) (le-ltb limit d (omega arith))) ∙ h))

@@ -1,21 +1,21 @@
 -- The levels that go down in turn, and the topmost member by them.
 -- Assumes nothing.
-use mathlib.Core.Path.{◌≡◌, refl, sym, ap, ◌∙◌}
+use mathlib.Core.Path.{◌≡◌, sym, ap, ◌∙◌}
 use mathlib.Core.Bool.{cond}
-use mathlib.Core.List.{List, [], ◌∷◌, map}
-use Prim.Native.Nat.{ℕ, zero, suc, ◌+◌, ◌-◌, ◌≤◌, ◌<◌}
+use mathlib.Core.List.{List, map}
+use Prim.Native.Nat.{ℕ, ◌+◌, ◌-◌, ◌≤◌, ◌<◌}
 use native.Mathlib.Decide.{dec_lt, ℕ_discrete}
 use native.Mathlib.Omega.{arith}
 use lib.Dec.{ltb}
 use lib.ListN.{length, take, get_or, set, replicate, length-set, length-map, length-take, length-replicate, get_or-replicate, get_or-map}
-use lib.Seq.{ext_get_or, get_or-take, length-take-le, get_or-set_same, get_or-set_other, take-set-lt}
+use lib.Seq.{ext_get_or, get_or-take, length-take-le, get_or-set_same, get_or-set_other}
 use borrow.Author.Tests.{lt-ltb, le-ltb}
 use Rattle.order.proofs.TabLaws.{length_tab, getD_tab}
 use Rattle.tree.specs.Tree.{Shape, Thing, place, level}
-use Rattle.closest.specs.Candidate.{member, topmost, levels}
+use Rattle.closest.specs.Candidate.{member, topmost}
 use Rattle.closest.proofs.TopLaws.{topmost_is}
 use Rattle.closest.proofs.CandidateLaws.{inside}
-use Rattle.members.specs.Levels.{levels_at, sum, level_sum, next_top, next_high}
+use Rattle.members.specs.Levels.{levels_at, next_top, next_high}
 
 -- ---- the topmost once it is replaced
 
@@ -157,26 +157,3 @@ levels_same m high few =
   where
     size : length (take m (levels_at m 0 high)) ≡ m
     size = length-take-le m (levels_at m 0 high) (omega (arith, levels_eight m 0 high few))
-
--- ---- their sum
-
-sum_set : (l : List ℕ) (i v : ℕ) → i < length l → sum (set l i v) + get_or l i 0 ≡ sum l + v
-unfolding sum
-sum_set [] i v h = absurd (omega arith)
-sum_set (a ∷ l) zero v h = omega arith
-sum_set (a ∷ l) (suc i) v h = omega (arith, sum_set l i v (omega arith))
-
--- it falls where the one that leads is replaced
-pub sum_falls : (m top high : ℕ) → m ≤ 8 → top < m → 0 < high → level_sum m (next_top m top) (next_high m top high) < level_sum m top high
-sum_falls m top high few inside some =
-    let l = take m (levels_at m top high) in
-    let size : length l ≡ m = length-take-le m (levels_at m top high) (omega (arith, levels_eight m top high few)) in
-    let old : get_or l top 0 ≡ high = get_or-take m (levels_at m top high) top 0 inside ∙ from m top high few top inside (omega arith) in
-    let new : sum (set l top (high - 1)) ≡ level_sum m (next_top m top) (next_high m top high) = ap sum (sym (take-set-lt m (levels_at m top high) top (high - 1) inside) ∙ ap (take m) (levels_next m top high few inside)) in
-    omega (arith, sum_set l top (high - 1) (omega (arith, size)), old, new)
-
--- it is that of the defined walk
-pub sum_levels : (s : Shape) (c : List Thing) → levels s c ≡ sum (map (level s) c)
-unfolding levels sum
-sum_levels s [] = refl
-sum_levels s (x ∷ c) = ap (λ (n : ℕ). level s x + n) (sum_levels s c)

@@ -12,8 +12,6 @@ use lib.Seq.{length-take-le, drop-cons, take-suc, take-suc-set, get_or-take, get
 use borrow.Author.Tests.{lt-ltb, le-ltb}
 use Rattle.walks.specs.Order.{before}
 use Rattle.kit.specs.Kit.{padded}
-use Rattle.closest.specs.Group.{better}
-use Rattle.members.specs.Kept.{Kept, kept_at, improved}
 
 -- of two lists of the same length, from k on
 module _ (a b : List ℕ) (same : length a ≡ length b) (k : ℕ) where
@@ -57,17 +55,14 @@ padded_out l j h k =
 -- ---- the first m of eight numbers, of which number i is p
 
 module _ (m : ℕ) (numbers : List ℕ) (i p : ℕ) (eight : length numbers ≡ 8) (most : m ≤ 8) where
-  pub many : length (take m (set numbers i p)) ≡ m
+  many : length (take m (set numbers i p)) ≡ m
   many = length-take-le m (set numbers i p) (omega (arith, length-set numbers i p))
 
   pub group_long : length (padded (take m (set numbers i p))) ≡ 8
   group_long = padded_long (take m (set numbers i p)) (omega (arith, many))
 
-  pub group_in : (j : ℕ) → j < m → get_or (padded (take m (set numbers i p))) j 0 ≡ get_or (take m (set numbers i p)) j 0
-  group_in j h = padded_in (take m (set numbers i p)) j (omega (arith, many))
-
   inside : (j : ℕ) → j < m → get_or (padded (take m (set numbers i p))) j 0 ≡ get_or (set numbers i p) j 0
-  inside j h = group_in j h ∙ get_or-take m (set numbers i p) j 0 h
+  inside j h = padded_in (take m (set numbers i p)) j (omega (arith, many)) ∙ get_or-take m (set numbers i p) j 0 h
 
   pub group_at : i < m → get_or (padded (take m (set numbers i p))) i 0 ≡ p
   group_at h = inside i h ∙ get_or-set_same numbers i p 0 (omega arith)
@@ -77,18 +72,6 @@ module _ (m : ℕ) (numbers : List ℕ) (i p : ℕ) (eight : length numbers ≡ 
 
   pub group_rest : (j : ℕ) → m ≤ j → j < 8 → get_or (padded (take m (set numbers i p))) j 0 ≡ 0
   group_rest j h k = padded_out (take m (set numbers i p)) j (omega (arith, many)) k
-
--- ---- a group that is offered
-
--- by which of the two is the better
-module _ (m d : ℕ) (g : List ℕ) (b : Kept) where
-  pub offered : better d g b.bound (take m b.places) ≡ true → improved m d g b ≡ kept_at d (padded g)
-  unfolding improved
-  offered e = rw (improved, e)
-
-  pub stayed : better d g b.bound (take m b.places) ≡ false → improved m d g b ≡ b
-  unfolding improved
-  stayed e = rw (improved, e)
 
 -- ---- one more of a list is stored
 

@@ -1,19 +1,14 @@
 -- Boxes in columns of sides, one left out, and a distance that is known up to a limit.
 -- Assumes nothing.
-use Rattle.std.specs.Prelude.{◌≡◌, cond, List, [], ◌∷◌, ℕ, zero, suc, ◌+◌, ◌≤◌, ◌<◌, ltb, set}
+use Rattle.std.specs.Prelude.{◌≡◌, cond, List, [], ◌∷◌, ℕ, zero, suc, ◌+◌, ◌≤◌, ◌<◌, ltb}
 use Rattle.plane.specs.Plane.{Ranged}
 use Rattle.plane.specs.declared.Box.{Box}
 use Rattle.order.specs.Tab.{tab}
 use Rattle.tree.specs.Tree.{Sides, box_at}
-use Rattle.tree.specs.Lent.{sides}
 
 -- the boxes that eight sides of each direction make
 abbrev pub boxes_at : Sides → List Box
 boxes_at b = tab (box_at b) 8
-
--- the sides with box i replaced
-abbrev pub put : Sides → ℕ → Box → Sides
-put b i d = sides (set b.x_lo i d.x.lo) (set b.x_hi i d.x.hi) (set b.y_lo i d.y.lo) (set b.y_hi i d.y.hi)
 
 -- the sides of every box of a list are in range
 abbrev pub AllRanged : List Box → Type 0
@@ -34,7 +29,3 @@ skip i k = cond (ltb k i) k (k + 1)
 pub record UpTo (limit d r : ℕ) : Type 0 where
   pub near : r ≤ limit → r ≡ d
   pub far : limit < r → limit < d
-
--- a distance that is taken at most once: the largest number stands for one that is not known yet
-abbrev pub Taken : ℕ → ℕ → Type 0
-Taken rest d = rest < 18446744073709551615 → rest ≡ d

@@ -1,4 +1,4 @@
 -- What the contracts about members cite.
 pub mod Boxes
 pub mod Levels
-pub mod Kept
+pub mod Best

@@ -6,12 +6,12 @@ ghost use Rattle.table.specs.Table.{table};
 ghost use Rattle.tree.specs.Tree.{thing, kit_of, box_at, box_of};
 ghost use Rattle.tree.specs.Lent.{sides};
 ghost use Rattle.walks.specs.Order.{before};
-ghost use Rattle.closest.specs.Group.{farthest, spread, better};
-ghost use Rattle.members.specs.Boxes.{without, skip, put, AllRanged, boxes_at, UpTo, Taken};
+ghost use Rattle.closest.specs.Group.{farthest, spread};
+ghost use Rattle.members.specs.Boxes.{without, skip, AllRanged, boxes_at, UpTo};
 ghost use Rattle.members.specs.Levels.{next_top, next_high};
-ghost use Rattle.members.specs.Kept.{kept_at, within, improved, Stepped};
+ghost use Rattle.members.specs.Best.{best_at, limit_of, near, improved, Stepped};
 
-// The best group known, as an answer tells it.
+// The best group known.
 #[derive(Drop)]
 pub struct Best {
     pub known: bool,
@@ -73,8 +73,15 @@ fn skipping(i: usize, k: usize) -> usize
     if k < i { k } else { k + 1 }
 }
 
-// Internal: the larger of `kept` and the largest squared distance of b and any of m boxes but box i; once it is above the limit, the rest is not looked at.
-pub fn row_from(
+// Internal: the square above which a candidate is dropped; while no group is known, the largest number, which nothing is above.
+pub fn limit_of(known: bool, squared: u64) -> u64
+    ensures { result ≡ limit_of known squared }
+{
+    if known { squared } else { 18446744073709551615 }
+}
+
+// Internal: the largest squared distance of b and any of m boxes but box i; once it is above the limit, the rest is not looked at.
+pub fn row_of(
     m: usize,
     west: &[i32; 8],
     east: &[i32; 8],
@@ -83,13 +90,12 @@ pub fn row_from(
     i: usize,
     b: plane::Box,
     limit: u64,
-    kept: u64,
 ) -> u64
     requires m_bound { (m ≤ 8) × (i < m) }
     requires all_ranged { AllRanged (take m (boxes_at (sides west.now east.now south.now north.now))) × Ranged b }
-    ensures { UpTo limit (max kept (farthest b (without i (take m (boxes_at (sides west.now east.now south.now north.now)))))) result }
+    ensures { UpTo limit (farthest b (without i (take m (boxes_at (sides west.now east.now south.now north.now))))) result }
 {
-    let mut most = kept;
+    let mut most: u64 = 0;
     let mut k: usize = 0;
     while k + 1 < m {
         let c = box_in(west, east, south, north, skipping(i, k));
@@ -100,6 +106,36 @@ pub fn row_from(
         }
     }
     most
+}
+
+// Internal: is b no farther than the best known from each of m boxes but box i? While no group is known, nothing is too far.
+pub fn is_near(
+    m: usize,
+    west: &[i32; 8],
+    east: &[i32; 8],
+    south: &[i32; 8],
+    north: &[i32; 8],
+    i: usize,
+    b: plane::Box,
+    known: bool,
+    squared: u64,
+) -> bool
+    requires m_bound { (m ≤ 8) × (i < m) }
+    requires all_ranged { AllRanged (take m (boxes_at (sides west.now east.now south.now north.now))) × Ranged b }
+    ensures { result ≡ near known squared (farthest b (without i (take m (boxes_at (sides west.now east.now south.now north.now))))) }
+{
+    if !known {
+        return true;
+    }
+    let mut k: usize = 0;
+    while k + 1 < m {
+        let c = box_in(west, east, south, north, skipping(i, k));
+        if squared < plane::apart_of(b, c) {
+            return false;
+        }
+        k += 1;
+    }
+    true
 }
 
 // The larger of `least` and the largest squared distance of b and any of m boxes but box i, without the first `from` of these.
@@ -128,8 +164,8 @@ fn farthest_of(
     most
 }
 
-// Internal: the largest squared distance of any two of m boxes but box i.
-pub fn spread_of(
+// The largest squared distance of any two of m boxes but box i.
+fn spread_of(
     m: usize,
     west: &[i32; 8],
     east: &[i32; 8],
@@ -163,50 +199,13 @@ pub fn rest_of(
 ) -> u64
     requires m_bound { (m ≤ 8) × (i < m) }
     requires all_ranged { AllRanged (take m (boxes_at (sides west.now east.now south.now north.now))) }
-    requires taken { Taken rest (spread (without i (take m (boxes_at (sides west.now east.now south.now north.now))))) }
+    requires rest_value { rest < 18446744073709551615 → rest ≡ spread (without i (take m (boxes_at (sides west.now east.now south.now north.now)))) }
     ensures { result ≡ spread (without i (take m (boxes_at (sides west.now east.now south.now north.now)))) }
 {
     if rest < 18446744073709551615 {
         return rest;
     }
     spread_of(m, west, east, south, north, i)
-}
-
-// Internal: step 1 for m boxes of which b takes the place of box i: is no pair of them above the limit? The pairs of the boxes that stay are not above `was`: they are tested again where the limit is another one, and their largest distance, for which the largest number stands while it is not known, is taken once.
-pub fn is_near(
-    m: usize,
-    west: &[i32; 8],
-    east: &[i32; 8],
-    south: &[i32; 8],
-    north: &[i32; 8],
-    i: usize,
-    b: plane::Box,
-    limit: u64,
-    was: u64,
-    rest: &mut u64,
-) -> bool
-    requires m_bound { (m ≤ 8) × (i < m) }
-    requires all_ranged { AllRanged (take m (boxes_at (sides west.now east.now south.now north.now))) × Ranged b }
-    requires north_bound { spread (without i (take m (boxes_at (sides west.now east.now south.now north.now)))) ≤ was }
-    requires taken { Taken rest.old (spread (without i (take m (boxes_at (sides west.now east.now south.now north.now))))) }
-    ensures value { result ≡ within limit (spread (set (take m (boxes_at (sides west.now east.now south.now north.now))) i b)) }
-    ensures taken_2 { Taken rest.new (spread (without i (take m (boxes_at (sides west.now east.now south.now north.now))))) }
-{
-    if limit != was {
-        *rest = rest_of(m, west, east, south, north, i, *rest);
-        if limit < *rest {
-            return false;
-        }
-    }
-    let mut k: usize = 0;
-    while k + 1 < m {
-        let c = box_in(west, east, south, north, skipping(i, k));
-        if limit < plane::apart_of(b, c) {
-            return false;
-        }
-        k += 1;
-    }
-    true
 }
 
 // Place j of the group of m places in which p is place i; 0 behind it.
@@ -224,14 +223,14 @@ fn number_at(m: usize, numbers: &[u16; 8], i: usize, p: u16, j: usize) -> u16
     0
 }
 
-// Is that group before the first m of other places in dictionary order?
+// Is that group before another in dictionary order?
 fn is_before(m: usize, numbers: &[u16; 8], i: usize, p: u16, places: &[u16; 8]) -> bool
     requires m_bound { (m ≤ 8) × (i < m) }
     requires numbers_len { (length numbers.now ≡ 8) × (length places.now ≡ 8) }
-    ensures { result ≡ before (take m (set numbers.now i p)) (take m places.now) }
+    ensures { result ≡ before (padded (take m (set numbers.now i p))) places.now }
 {
     let mut j: usize = 0;
-    while j < m {
+    while j < 8 {
         let a = number_at(m, numbers, i, p, j);
         let b = places[j];
         if a < b {
@@ -258,46 +257,51 @@ fn store(m: usize, numbers: &[u16; 8], i: usize, p: u16, places: &mut [u16; 8])
     }
 }
 
-// Is that group, of this squared diameter, better than the one that is kept?
+// Is that group, of this squared diameter, better than the best known?
 fn is_better(
     m: usize,
     numbers: &[u16; 8],
     i: usize,
     p: u16,
     squared: u64,
-    bound: u64,
+    known: bool,
+    least: u64,
     places: &[u16; 8],
 ) -> bool
     requires m_bound { (m ≤ 8) × (i < m) }
     requires numbers_len { (length numbers.now ≡ 8) × (length places.now ≡ 8) }
-    ensures { result ≡ better squared (take m (set numbers.now i p)) bound (take m places.now) }
+    ensures { improved (padded (take m (set numbers.now i p))) squared (best_at known least places.now) ≡ cond result (best_at true squared (padded (take m (set numbers.now i p)))) (best_at known least places.now) }
 {
-    if squared < bound {
+    if !known {
         return true;
     }
-    if bound < squared {
+    if squared < least {
+        return true;
+    }
+    if least < squared {
         return false;
     }
     is_before(m, numbers, i, p, places)
 }
 
-// Internal: that group becomes the one that is kept if it is better.
+// Internal: that group becomes the best known if it is better.
 pub fn offer(
     m: usize,
     numbers: &[u16; 8],
     i: usize,
     p: u16,
-    squared: u64,
-    bound: &mut u64,
+    d: u64,
+    known: &mut bool,
+    squared: &mut u64,
     places: &mut [u16; 8],
 )
     requires m_bound { (m ≤ 8) × (i < m) }
     requires numbers_len { (length numbers.now ≡ 8) × (length places.old ≡ 8) }
-    ensures places_after { kept_at bound.new places.new ≡ improved m squared (take m (set numbers.now i p)) (kept_at bound.old places.old) }
-    ensures places_len { length places.new ≡ 8 }
+    ensures { best_at known.new squared.new places.new ≡ improved (padded (take m (set numbers.now i p))) d (best_at known.old squared.old places.old) }
 {
-    if is_better(m, numbers, i, p, squared, *bound, places) {
-        *bound = squared;
+    if is_better(m, numbers, i, p, d, *known, *squared, places) {
+        *known = true;
+        *squared = d;
         store(m, numbers, i, p, places);
     }
 }
@@ -363,32 +367,20 @@ pub fn kind_at(kinds: [u8; 8], i: usize) -> usize
     0
 }
 
-// Internal: member i of a candidate in columns is replaced. Values are put in behind references, one by one: a column that is made anew right before a call makes the call wait for it.
-pub fn put_member(
-    numbers: &mut [u16; 8],
-    west: &mut [i32; 8],
-    east: &mut [i32; 8],
-    south: &mut [i32; 8],
-    north: &mut [i32; 8],
-    i: usize,
-    p: u16,
-    b: plane::Box,
-)
+// Internal: number i of eight is replaced.
+pub fn put16(numbers: &mut [u16; 8], i: usize, v: u16)
     requires { i < 8 }
-    ensures numbers_after { numbers.new ≡ set numbers.old i p }
-    ensures north_after { sides west.new east.new south.new north.new ≡ put (sides west.old east.old south.old north.old) i b }
+    ensures { numbers.new ≡ set numbers.old i v }
 {
-    let bx = b.x;
-    let by = b.y;
-    numbers[i] = p;
-    let least_x = bx.lo;
-    west[i] = least_x;
-    let greatest_x = bx.hi;
-    east[i] = greatest_x;
-    let least_y = by.lo;
-    south[i] = least_y;
-    let greatest_y = by.hi;
-    north[i] = greatest_y;
+    numbers[i] = v;
+}
+
+// Internal: side i of eight is replaced.
+pub fn put32(ends: &mut [i32; 8], i: usize, v: i32)
+    requires { i < 8 }
+    ensures { ends.new ≡ set ends.old i v }
+{
+    ends[i] = v;
 }
 
 // Internal: takes a step, if the allowance has one left.

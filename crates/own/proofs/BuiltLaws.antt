@@ -1,4 +1,4 @@
--- Our tree in lent columns: what the builder leaves, and the part that is used.
+-- Our tree in lent columns: what the builder leaves, and its used part.
 -- Assumes nothing.
 use mathlib.Core.Path.{◌≡◌, refl, sym, ap, ap₂, subst, ◌∙◌}
 use mathlib.Core.List.{List, [], ◌++◌, append-nil}
@@ -19,14 +19,21 @@ use Rattle.order.proofs.TabLaws.{length_tab}
 use Rattle.groups.specs.Members.{Passes}
 use Rattle.levels.specs.Levels.{nodes, listed}
 use Rattle.levels.specs.Built.{built, column, entries_of}
-use Rattle.build.specs.Room.{build_rules, over, written_over}
+use Rattle.build.specs.Room.{build_rules, over, written_over, afterwards}
 use Rattle.levels.proofs.LevelLaws.{nodes_few, listed_is}
 use Rattle.levels.proofs.LaidLaws.{length_entries}
 use Rattle.build.proofs.PassLaws.{built_passes}
-use Rattle.own.specs.Own.{used, Own}
 
 over_nothing : {A : Type 0} (l : List A) → over l [] ≡ l
 over_nothing l = ap₂ ◌++◌ (refl {a = l}) (drop-nil (length l)) ∙ append-nil l
+
+-- a tree with its columns cut off behind what is used
+abbrev pub used : Tree → Tree
+used w =
+    let n = w.shape.nodes in
+    let j = w.shape.listed in
+    tree (shape n j (take n w.shape.level) (take n w.shape.start) (take n w.shape.count) (take j w.shape.entries))
+    (sides (take n w.sides.x_lo) (take n w.sides.x_hi) (take n w.sides.y_lo) (take n w.sides.y_hi)) (take n w.kits)
 
 used_column : {A : Type 0} (t : Table) (f : ℕ → A) (before : List A) → take (nodes (places t)) (over (column t f) before) ≡ column t f
 used_column t f before = take_at (column t f) _ (nodes (places t)) (length_tab f (nodes (places t)))
@@ -43,37 +50,34 @@ built_sound t v =
     let e : written_over (built t) nothing ≡ built t = rw (over_nothing, over_nothing, over_nothing, over_nothing, over_nothing, over_nothing, over_nothing, over_nothing, over_nothing) in
     record { sound = v; passes = subst (λ (w : Tree). AllHold (tree_rules t w)) e (built_passes t v nothing) }
 
--- and so does the part that is used of columns that begin with it
-pub used_passes : {t : Table} {w : Tree} → Own t w → Passes t (used w)
-used_passes {t} o = subst (Passes t) (sym o.begins) (built_sound t o.valid)
+module _ {t : Table} (v : Valid t) (before : Tree) (room : Room 273 4368 (lengths before)) where
+  -- 273 nodes and 4,368 entries are room for every table
+  enough : Room (nodes (places t)) (listed (places t)) (lengths before)
+  enough =
+      let few = (valid_even v).few in
+      let n = nodes_few (places t) few in
+      record {
+        level = omega (arith, room.level);
+        start = omega (arith, room.start);
+        count = omega (arith, room.count);
+        entries = omega (arith, room.entries, listed_is (places t) few);
+        x_lo = omega (arith, room.x_lo);
+        x_hi = omega (arith, room.x_hi);
+        y_lo = omega (arith, room.y_lo);
+        y_hi = omega (arith, room.y_hi);
+        kits = omega (arith, room.kits);
+      }
 
--- so no column is shorter than its count
-pub used_room : {t : Table} {w : Tree} → Own t w → Room w.shape.nodes w.shape.listed (lengths (used w))
-used_room {t} {w} o = (meets_of t (used w) (used_passes o).passes).counted.room
-
-module _ {t : Table} (v : Valid t) (before : Tree) where
-  -- columns over which our tree was written begin with it
-  pub written_own : {after : Tree} → after ≡ written_over (built t) before → Own t after
-  written_own e = record { valid = v; begins = ap used e ∙ used_over t (valid_even v).few before }
-
-  module _ (room : Room 273 4368 (lengths before)) where
-    -- 273 nodes and 4,368 entries are room for every table
-    enough : Room (nodes (places t)) (listed (places t)) (lengths before)
-    enough =
-        let few = (valid_even v).few in
-        let n = nodes_few (places t) few in
-        record {
-          level = omega (arith, room.level);
-          start = omega (arith, room.start);
-          count = omega (arith, room.count);
-          entries = omega (arith, room.entries, listed_is (places t) few);
-          x_lo = omega (arith, room.x_lo);
-          x_hi = omega (arith, room.x_hi);
-          y_lo = omega (arith, room.y_lo);
-          y_hi = omega (arith, room.y_hi);
-          kits = omega (arith, room.kits);
-        }
-
+  module _ {code at : ℕ} (said : says code at ≡ verdict (build_rules t (lengths before))) {after : Tree} (left : after ≡ afterwards code t before) where
     -- so the builder refuses nothing
-    pub none_refused : {w : Verdict} → w ≡ verdict (build_rules t (lengths before)) → w ≡ says 0 0
-    none_refused e = e ∙ all_hold (build_rules t (lengths before)) (v.0, (v.1.0, (λ _ _ _. enough, tt)))
+    made : after ≡ written_over (built t) before
+    made =
+        let none : says code at ≡ says 0 0 = said ∙ all_hold (build_rules t (lengths before)) (v.0, (v.1.0, (λ _ _ _. enough, tt))) in
+        left ∙ ap (λ (w : Verdict). afterwards w.code t before) none
+
+    pub made_room : Room after.shape.nodes after.shape.listed (lengths after)
+    made_room = subst (λ (w : Tree). Room w.shape.nodes w.shape.listed (lengths w)) (sym made) (meets_of t (written_over (built t) before) (built_passes t v before)).counted.room
+
+    -- the used part of the columns is our tree
+    pub used_built : used after ≡ built t
+    used_built = ap used made ∙ used_over t (valid_even v).few before

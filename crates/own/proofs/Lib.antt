@@ -1,2 +1,2 @@
--- Laws of our own tree in lent columns.
+-- Laws of a search over our own tree.
 pub mod BuiltLaws

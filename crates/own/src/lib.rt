@@ -1,16 +1,13 @@
-// Our own tree of a table: built once in lent columns, and searched there as often as is asked.
+// The search of a table over our own tree, which is built for it.
 ghost use Rattle.std.specs.Prelude.{◌≡◌};
 ghost use Rattle.table.specs.Table.{table, Valid};
 ghost use Rattle.tree.specs.Lent.{shape, sides, tree};
 ghost use Rattle.tree.specs.Rules.{Room, lengths};
-ghost use Rattle.verdict.specs.Rules.{says};
 ghost use Rattle.levels.specs.Built.{built};
-ghost use Rattle.build.specs.Room.{written_over};
 ghost use Rattle.found.specs.Search.{searched};
-ghost use Rattle.own.specs.Own.{Own};
 
-// Internal: builds our tree of a valid table in columns that have room for every table's; refuses nothing.
-pub fn build_own(
+// The search over our tree, which is built in the lent columns.
+fn search_in(
     x: &[i32],
     y: &[i32],
     kit: &[u64],
@@ -23,40 +20,17 @@ pub fn build_own(
     y_hi: &mut [i32],
     kits: &mut [u64],
     entries: &mut [u16],
-) -> build::Built
-    requires valid { Valid (table x.now y.now kit.now) }
-    requires room { Room 273 4368 (lengths (tree (shape 0 0 level.old start.old count.old entries.old) (sides x_lo.old x_hi.old y_lo.old y_hi.old) kits.old)) }
-    ensures at_value { says result.code result.at ≡ says 0 0 }
-    ensures kits_after { tree (shape result.nodes result.listed level.new start.new count.new entries.new) (sides x_lo.new x_hi.new y_lo.new y_hi.new) kits.new ≡ written_over (built (table x.now y.now kit.now)) (tree (shape 0 0 level.old start.old count.old entries.old) (sides x_lo.old x_hi.old y_lo.old y_hi.old) kits.old) }
-    ensures own { Own (table x.now y.now kit.now) (tree (shape result.nodes result.listed level.new start.new count.new entries.new) (sides x_lo.new x_hi.new y_lo.new y_hi.new) kits.new) }
-{
-    build::build(
-        x, y, kit, level, start, count, x_lo, x_hi, y_lo, y_hi, kits, entries,
-    )
-}
-
-// Internal: the search over our tree of a table, in columns that begin with it. They are read and stay as they are, so that one tree serves any number of searches.
-pub fn search_own(
-    x: &[i32],
-    y: &[i32],
-    kit: &[u64],
-    level: &[u8],
-    start: &[u16],
-    count: &[u8],
-    x_lo: &[i32],
-    x_hi: &[i32],
-    y_lo: &[i32],
-    y_hi: &[i32],
-    kits: &[u64],
-    entries: &[u16],
-    nodes: usize,
-    listed: usize,
     want: u64,
     allowance: u32,
 ) -> found::Found
-    requires { Own (table x.now y.now kit.now) (tree (shape nodes listed level.now start.now count.now entries.now) (sides x_lo.now x_hi.now y_lo.now y_hi.now) kits.now) }
+    requires { Valid (table x.now y.now kit.now) × Room 273 4368 (lengths (tree (shape 0 0 level.old start.old count.old entries.old) (sides x_lo.old x_hi.old y_lo.old y_hi.old) kits.old)) }
     ensures { result ≡ searched (table x.now y.now kit.now) (built (table x.now y.now kit.now)) want allowance }
 {
+    let b = build::build(
+        x, y, kit, level, start, count, x_lo, x_hi, y_lo, y_hi, kits, entries,
+    );
+    let nodes = b.nodes;
+    let listed = b.listed;
     search::search_over(
         x,
         y,
@@ -77,7 +51,7 @@ pub fn search_own(
     )
 }
 
-// Internal: the search over our tree of a table, which is built for it.
+// Internal: the search over our tree of a table.
 pub fn search_table(x: &[i32], y: &[i32], kit: &[u64], want: u64, allowance: u32) -> found::Found
     requires { Valid (table x.now y.now kit.now) }
     ensures { result ≡ searched (table x.now y.now kit.now) (built (table x.now y.now kit.now)) want allowance }
@@ -91,7 +65,7 @@ pub fn search_table(x: &[i32], y: &[i32], kit: &[u64], want: u64, allowance: u32
     let mut y_hi = [0i32; 273];
     let mut kits = [0u64; 273];
     let mut entries = [0u16; 4368];
-    let b = build_own(
+    search_in(
         x,
         y,
         kit,
@@ -104,9 +78,7 @@ pub fn search_table(x: &[i32], y: &[i32], kit: &[u64], want: u64, allowance: u32
         &mut y_hi,
         &mut kits,
         &mut entries,
-    );
-    search_own(
-        x, y, kit, &level, &start, &count, &x_lo, &x_hi, &y_lo, &y_hi, &kits, &entries, b.nodes,
-        b.listed, want, allowance,
+        want,
+        allowance,
     )
 }

@@ -1,4 +1,6 @@
 // Whole numbers in the plane: spans, boxes, how far apart they are, and the whole-number root.
+#![tactic(auto)]
+
 ghost use Rattle.std.specs.Prelude.{◌≡◌, false, ◌||◌, nat_abs, ◌-ℤ◌};
 ghost use Rattle.plane.specs.Plane.{outside, square, squared_of, rise, gap, Ranged, apart, least, greatest, join_spans, join_boxes, measured};
 ghost use Rattle.plane.specs.Root.{Root};

@@ -35,12 +35,12 @@ use Rattle.report.specs.Distance.{root_of}
 use Rattle.report.proofs.RootLaws.{root_of_lem}
 use Rattle.reply.specs.Reply.{printed}
 use Rattle.promises.specs.Reports.{Reports, codes_of}
-use Rattle.promises.specs.Answers.{between, Closest, Spelt, NoGroup, steps_of, known_after, spent, Ended, Ends, is_none, is_spent, is_found}
+use Rattle.promises.specs.Answers.{between, Closest, NoGroup, steps_of, known_after, spent, Ended, Ends, is_none, is_spent, is_found}
 use Rattle.promises.specs.Sheets.{IsSheet, ReadsAs, no_sheet, no_room, a_sheet}
 use Rattle.promises.specs.Prints.{Answers, Prints, too_long, not_read, was_read}
 use Rattle.promises.proofs.ReportLaws.{reports, reports_only, codes}
 use Rattle.promises.proofs.DiameterLaws.{diameter_above, diameter_least}
-use Rattle.promises.proofs.EndLaws.{spelt_of, of_spelt, ends, ended, of_ended, fault, all_codes, when_found, when_none, when_spent, spent_when}
+use Rattle.promises.proofs.EndLaws.{ends, ended, of_ended, fault, all_codes, when_found, when_none, when_spent, spent_when}
 use Rattle.promises.proofs.ReadLaws.{is_sheet, sheet_is, reads_as, short_buffer, buffer_short}
 use Rattle.promises.proofs.PrintLaws.{our_tree, prints}
 use Rattle.promises.proofs.OneLaws.{one_closest, one_held, one_end, one_reading, one_print}
@@ -133,10 +133,6 @@ module _ (t : Table) (g : List ℕ) where
   diameter_tight d = diameter_least t d g
 
 module _ (t : Table) (want : ℕ) where
-  -- the answer, spelt out
-  pub closest_spelt : {g : List ℕ} → Closest t want g ↔ Spelt t want g
-  closest_spelt = (spelt_of, of_spelt)
-
   -- there is at most one answer
   pub closest_one : {g o : List ℕ} → Closest t want g → Closest t want o → g ≡ o
   closest_one = one_closest t want

@@ -20,7 +20,7 @@ use Rattle.walks.specs.Allowance.{stand}
 use Rattle.walks.specs.Order.{before}
 use Rattle.walks.specs.Walk.{final}
 use Rattle.walks.proofs.OrderLaws.{clash, not_true, by_less, by_even, by_le}
-use Rattle.closest.specs.Group.{Covers, diameter, better_in, IsAnswer}
+use Rattle.closest.specs.Group.{Covers, diameter, better, IsAnswer}
 use Rattle.closest.specs.Walk.{whole_walk, begins}
 use Rattle.closest.proofs.AnswerLaws.{none_exactly}
 use Rattle.walk.specs.State.{state_of}
@@ -30,32 +30,26 @@ use Rattle.found.proofs.SearchLaws.{sound_of, searched_fault}
 use Rattle.search.proofs.DemandLaws.{gives_none, gives_spent, gives_found}
 use Rattle.found.specs.declared.Found.{Found}
 use Rattle.promises.specs.Reports.{codes_of}
-use Rattle.promises.specs.Answers.{Closest, Spelt, NoGroup, walk_of, steps_of, known_after, spent, found, Ended, Ends, is_none, is_spent, is_found}
+use Rattle.promises.specs.Answers.{Closest, NoGroup, walk_of, steps_of, known_after, spent, found, Ended, Ends, is_none, is_spent, is_found}
 use Rattle.promises.proofs.ReportLaws.{codes, member_le, member_more, member_after}
 
--- the answer, and the same spelt out
+-- the answer, spelt out
 module _ {t : Table} {want : ℕ} {g : List ℕ} where
   pub closest_of : IsAnswer t (kinds want) (some g) → Closest t want g
-  closest_of a = record { covers = a.0; best = a.1 }
-
-  pub of_closest : Closest t want g → IsAnswer t (kinds want) (some g)
-  of_closest c = (c.covers, c.best)
-
-  pub spelt_of : Closest t want g → Spelt t want g
-  spelt_of a = record {
-    covers = a.covers;
-    least = λ o c. go o (a.best o c) (dec_lt (diameter t o) (diameter t g));
-    first = λ o c e. sym (by_even (diameter t) before o g e) ∙ a.best o c;
+  closest_of a = record {
+    covers = a.0;
+    least = λ o c. go o (a.1 o c) (dec_lt (diameter t o) (diameter t g));
+    first = λ o c e. sym (by_even (diameter t) before o g e) ∙ a.1 o c;
   }
     where
-      go : (o : List ℕ) → better_in t o g ≡ false → Dec (diameter t o < diameter t g) → diameter t g ≤ diameter t o
+      go : (o : List ℕ) → better t o g ≡ false → Dec (diameter t o < diameter t g) → diameter t g ≤ diameter t o
       go o e (yes l) = clash (by_less (diameter t) before o g l) e
       go o e (no n) = omega arith
 
-  pub of_spelt : Spelt t want g → Closest t want g
-  of_spelt c = record { covers = c.covers; best = λ o h. not_true (better_in t o g) (λ e. go o h e (by_le (diameter t) before o g e)) }
+  pub of_closest : Closest t want g → IsAnswer t (kinds want) (some g)
+  of_closest c = (c.covers, λ o h. not_true (better t o g) (λ e. go o h e (by_le (diameter t) before o g e)))
     where
-      go : (o : List ℕ) → Covers t (kinds want) o → better_in t o g ≡ true → diameter t o ≤ diameter t g → ⊥
+      go : (o : List ℕ) → Covers t (kinds want) o → better t o g ≡ true → diameter t o ≤ diameter t g → ⊥
       go o h e l = let same : diameter t o ≡ diameter t g = omega (arith, c.least o h) in clash (sym (by_even (diameter t) before o g same) ∙ e) (c.first o h same)
 
 module _ (t : Table) (tree : Tree) (want : ℕ) where

@@ -8,7 +8,7 @@ use Rattle.table.specs.Table.{Table}
 use Rattle.tree.specs.Tree.{Tree}
 use Rattle.walks.specs.Order.{before}
 use Rattle.walks.specs.Walk.{final}
-use Rattle.closest.specs.Group.{Covers, diameter, better}
+use Rattle.closest.specs.Group.{Covers, diameter}
 use Rattle.closest.specs.Walk.{whole_walk, begins}
 use Rattle.found.specs.Search.{refused}
 use Rattle.found.specs.declared.Found.{Found}
@@ -17,13 +17,8 @@ use Rattle.found.specs.declared.Found.{Found}
 abbrev pub between : Table → ℕ → ℕ → ℕ
 between t p q = squared_of (get_or t.x p (pos 0)) (get_or t.y p (pos 0)) (get_or t.x q (pos 0)) (get_or t.y q (pos 0))
 
--- g is the answer: a group for the want, and no group for it is better
+-- g is the answer: a group for the want, no group has a less squared diameter, and of those with the same none is earlier in dictionary order
 pub record Closest (t : Table) (want : ℕ) (g : List ℕ) : Type 0 where
-  pub covers : Covers t (kinds want) g
-  pub best : (o : List ℕ) → Covers t (kinds want) o → better (diameter t o) o (diameter t g) g ≡ false
-
--- the same spelt out: no group has a less squared diameter, and of those with the same none is earlier in dictionary order
-pub record Spelt (t : Table) (want : ℕ) (g : List ℕ) : Type 0 where
   pub covers : Covers t (kinds want) g
   pub least : (o : List ℕ) → Covers t (kinds want) o → diameter t g ≤ diameter t o
   pub first : (o : List ℕ) → Covers t (kinds want) o → diameter t o ≡ diameter t g → before o g ≡ false

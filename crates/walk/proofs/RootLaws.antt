@@ -12,8 +12,8 @@ use Rattle.table.specs.Table.{Table}
 use Rattle.tree.specs.Tree.{Tree, Sides, place, node, level}
 use Rattle.tree.specs.Lent.{sides}
 use Rattle.closest.specs.Candidate.{member, topmost, group_of}
-use Rattle.closest.specs.Walk.{roots, boxes}
-use Rattle.groups.specs.Members.{Member, member_of, nobody, members_at, thing_of, things_of, Real, Fair, Walkable}
+use Rattle.closest.specs.Walk.{roots}
+use Rattle.groups.specs.Members.{Member, member_of, members_of, nobody, members_at, thing_of, things_of, Real, Fair, Passes}
 use Rattle.groups.proofs.EntryLaws.{node_high}
 use Rattle.members.specs.Levels.{levels_at}
 use Rattle.members.proofs.LevelLaws.{from, levels_same, top_at}
@@ -30,32 +30,28 @@ map_replicate : {A B : Type 0} (f : A → B) (m : ℕ) (a : A) → map f (replic
 map_replicate f zero a = refl
 map_replicate f (suc m) a = ap (λ l. f a ∷ l) (map_replicate f m a)
 
-module _ {t : Table} {tree : Tree} (p : Walkable t tree (boxes t tree)) (some : 0 < tree.shape.nodes) (kinds : List ℕ) (m : ℕ) (few : m ≤ 8) where
-  -- the root, which has one box in the place of any kind
-  abbrev root : Member
-  root = member_of tree (boxes t tree) 0 (node 0)
+module _ {t : Table} {tree : Tree} (p : Passes t tree) (some : 0 < tree.shape.nodes) (kinds : List ℕ) (m : ℕ) (few : m ≤ 8) where
+  root : Member
+  root = member_of t tree (node 0)
 
-  thing_root : thing_of root ≡ node 0
-  thing_root = thing_of_lem p 0 (node 0) some
+  pub things_roots : length kinds ≡ m → things_of (take m (replicate 8 (member_of t tree (node 0)))) ≡ roots kinds
+  things_roots e =
+      ap things_of (take_replicate m 8 _ few) ∙ map_replicate thing_of m _ ∙ ap (replicate m) (thing_of_lem p (node 0) some) ∙ ap (λ (n : ℕ). replicate n (node 0)) (sym e)
 
-  pub things_roots : length kinds ≡ m → things_of (take m (replicate 8 root)) ≡ roots kinds
-  things_roots e = ap things_of (take_replicate m 8 _ few) ∙ map_replicate thing_of m _ ∙ ap (replicate m) thing_root ∙ ap (λ (n : ℕ). replicate n (node 0)) (sym e)
-
-  pub fair_roots : length kinds ≡ m → Fair t tree (boxes t tree) kinds (take m (replicate 8 root))
+  pub fair_roots : length kinds ≡ m → Fair t tree kinds (take m (replicate 8 (member_of t tree (node 0))))
   fair_roots e = record {
-    size = size ∙ sym e;
-    real = λ i h. subst (Real t tree) (thing_at i h) some;
-    so = λ i h. at i h ∙ ap (member_of tree (boxes t tree) (get_or kinds i 0)) (thing_at i h);
+    size = ap length (take_replicate m 8 _ few) ∙ length-replicate m _ ∙ sym e;
+    real = λ i h.
+        subst (Real t tree) (sym (thing_of_lem p (node 0) some) ∙ sym (ap thing_of (at i (omega (arith, ap length (take_replicate m 8 (member_of t tree (node 0)) few), length-replicate m (member_of t tree (node 0)))))))
+        some;
+    so = take_replicate m 8 _ few
+        ∙ sym (map_replicate (member_of t tree) m (node 0))
+        ∙ ap (λ (n : ℕ). members_of t tree (replicate n (node 0))) (sym e)
+        ∙ ap (members_of t tree) (sym (things_roots e));
   }
     where
-      size : length (take m (replicate 8 root)) ≡ m
-      size = ap length (take_replicate m 8 root few) ∙ length-replicate m root
-
-      at : (i : ℕ) → i < length (take m (replicate 8 root)) → get_or (take m (replicate 8 root)) i nobody ≡ root
-      at i h = ap (λ (l : List Member). get_or l i nobody) (take_replicate m 8 root few) ∙ get_or-replicate m i root nobody (omega (arith, size))
-
-      thing_at : (i : ℕ) → i < length (take m (replicate 8 root)) → node 0 ≡ thing_of (get_or (take m (replicate 8 root)) i nobody)
-      thing_at i h = sym (ap thing_of (at i h) ∙ thing_root)
+      at : (i : ℕ) → i < m → get_or (take m (replicate 8 (member_of t tree (node 0)))) i nobody ≡ member_of t tree (node 0)
+      at i h = ap (λ (l : List Member). get_or l i nobody) (take_replicate m 8 _ few) ∙ get_or-replicate m i _ nobody h
 
   -- it is opened at its first member
   member_roots : (i : ℕ) → i < m → member (replicate m (node 0)) i ≡ node 0

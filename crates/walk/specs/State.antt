@@ -1,12 +1,11 @@
 -- Where a walk stands, as the code has it.
 -- Assumes nothing.
-use Rattle.std.specs.Prelude.{true, false, cond, List, ℕ, ltb, replicate}
+use Rattle.std.specs.Prelude.{true, false, List, ℕ, replicate}
 use Rattle.std.proofs.Math.Option.{Option, none, some}
 use Rattle.kit.specs.Kit.{padded}
 use Rattle.table.specs.Table.{Table}
 use Rattle.walks.specs.Allowance.{Stand}
 use Rattle.closest.specs.Group.{diameter}
-use Rattle.members.specs.Kept.{Kept, largest}
 use Rattle.members.specs.declared.Best.{Best}
 use Rattle.walk.specs.declared.State.{State}
 
@@ -17,10 +16,3 @@ best_of t (some g) = record { known = true; squared = diameter t g; places = pad
 
 abbrev pub state_of : Table → Stand (Option (List ℕ)) → State
 state_of t w = record { steps = w.steps; spent = w.spent; best = best_of t w.known }
-
--- what the code keeps, as it is told: while no group is known there is no square
-abbrev pub told_of : Kept → Best
-told_of b = cond (ltb b.bound largest) (record { known = true; squared = b.bound; places = b.places }) (record { known = false; squared = 0; places = b.places })
-
-abbrev pub told : Stand Kept → State
-told w = record { steps = w.steps; spent = w.spent; best = told_of w.known }

@@ -2,11 +2,9 @@
 ghost use Rattle.std.specs.Prelude.{◌≡◌, true, take};
 ghost use Rattle.table.specs.Table.{table};
 ghost use Rattle.tree.specs.Lent.{shape, sides, tree};
-ghost use Rattle.walks.specs.Allowance.{stand};
 ghost use Rattle.closest.specs.Walk.{begins, stands_at};
-ghost use Rattle.members.specs.Kept.{kept_at};
 ghost use Rattle.groups.specs.Members.{Few, Passes};
-ghost use Rattle.walk.specs.State.{state_of, told};
+ghost use Rattle.walk.specs.State.{state_of};
 
 // Where the walk stands.
 #[derive(Drop)]
@@ -14,20 +12,6 @@ pub struct State {
     pub steps: u32,
     pub spent: bool,
     pub best: members::Best,
-}
-
-// Where the walk stands, from what is kept.
-fn tell(steps: u32, spent: bool, bound: u64, places: [u16; 8]) -> State
-    ensures { result ≡ told (stand steps spent (kept_at bound places)) }
-{
-    let known = bound < 18446744073709551615;
-    let squared = if known { bound } else { 0 };
-    let best = members::Best {
-        known,
-        squared,
-        places,
-    };
-    State { steps, spent, best }
 }
 
 // Internal: the whole walk of a want whose kinds the root holds.
@@ -55,49 +39,57 @@ pub fn walk_all(
     requires kinds_value { begins (table x.now y.now kit.now) (tree (shape nodes listed level.now start.now count.now entries.now) (sides x_lo.now x_hi.now y_lo.now y_hi.now) kits.now) (take m kinds) ≡ true }
     ensures { result ≡ state_of (table x.now y.now kit.now) (stands_at (table x.now y.now kit.now) (tree (shape nodes listed level.now start.now count.now entries.now) (sides x_lo.now x_hi.now y_lo.now y_hi.now) kits.now) (take m kinds) allowance) }
 {
+    let at = tree::box_at(x_lo, x_hi, y_lo, y_hi, 0);
     let mut places = [0u16; 8];
     let mut steps: u32 = 0;
-    let mut bound: u64 = 18446744073709551615;
-    if allowance == 0 {
-        return tell(steps, true, bound, places);
+    let mut known = false;
+    let mut squared: u64 = 0;
+    let mut spent = true;
+    if 0 < allowance {
+        steps = 1;
+        let bx = at.x;
+        let by = at.y;
+        spent = descent::descend(
+            level,
+            start,
+            count,
+            entries,
+            x,
+            y,
+            kit,
+            x_lo,
+            x_hi,
+            y_lo,
+            y_hi,
+            kits,
+            nodes,
+            listed,
+            kinds,
+            m,
+            allowance,
+            0,
+            level[0],
+            [0u16; 8],
+            [bx.lo; 8],
+            [bx.hi; 8],
+            [by.lo; 8],
+            [by.hi; 8],
+            0,
+            0,
+            bx.lo,
+            bx.hi,
+            by.lo,
+            by.hi,
+            &mut steps,
+            &mut known,
+            &mut squared,
+            &mut places,
+        );
     }
-    steps = 1;
-    let at = tree::box_at(x_lo, x_hi, y_lo, y_hi, 0);
-    let bx = at.x;
-    let by = at.y;
-    let numbers = [0u16; 8];
-    let west = [bx.lo; 8];
-    let east = [bx.hi; 8];
-    let south = [by.lo; 8];
-    let north = [by.hi; 8];
-    let spent = descent::descend(
-        level,
-        start,
-        count,
-        entries,
-        x,
-        y,
-        kit,
-        x_lo,
-        x_hi,
-        y_lo,
-        y_hi,
-        kits,
-        nodes,
-        listed,
-        kinds,
-        m,
-        allowance,
-        0,
-        level[0],
-        &numbers,
-        &west,
-        &east,
-        &south,
-        &north,
-        &mut steps,
-        &mut bound,
-        &mut places,
-    );
-    tell(steps, spent, bound, places)
+    let best = members::Best {
+        known,
+        squared,
+        places,
+    };
+    State { steps, spent, best }
 }

@@ -34,24 +34,23 @@ module _ {K L : Type 0} (h : K → L) where
       go (yes l) = rw (beyond a w k l, beyond a (map h w) (h k) (omega (arith, length-map w h)), map_take a w, map_final k (take a w))
       go (no n) = rw (within a w k (omega arith), within a (map h w) (h k) (omega (arith, length-map w h)), map_final k w, length-map w h)
 
--- what m knows n knows in the words of h, as far as it is Ok: it drops the same fine candidates, and learns the same of their groups
-pub record Carries {C G K L : Type 0} (s : Scene C G) (m : Memory G K) (n : Memory G L) (far : C → ℕ → Bool) (h : K → L) (Fine : C → Type 0) (Ok : K → Type 0) : Type 0 where
+-- what m knows n knows in the words of h, as far as it is Ok and the groups are those of fine candidates
+pub record Carries {C G K L : Type 0} (s : Scene C G) (m : Memory G K) (n : Memory G L) (h : K → L) (Fine : C → Type 0) (Ok : K → Type 0) : Type 0 where
   pub closed : Closed s Fine
-  pub drops : (c : C) (k : K) → Fine c → Ok k → dropped s n far c (h k) ≡ dropped s m far c k
+  pub bounds : (k : K) → Ok k → n.bound (h k) ≡ m.bound k
   pub learns : (c : C) (k : K) (g : G) → Fine c → s.group c ≡ some g → Ok k → n.learn (h k) g ≡ h (m.learn k g)
   pub ok : (c : C) (k : K) (g : G) → Fine c → s.group c ≡ some g → Ok k → Ok (m.learn k g)
-
--- where the bounds are the same, so are the drops
-pub same_bound : {C G K L : Type 0} (s : Scene C G) (m : Memory G K) (n : Memory G L) (far : C → ℕ → Bool) (c : C) (k : K) (l : L) → n.bound l ≡ m.bound k → dropped s n far c l ≡ dropped s m far c k
-unfolding dropped
-same_bound s m n far c k l e = rw (dropped, e)
 
 -- step for step, and what is known stays Ok
 record Same {K L : Type 0} (h : K → L) (Ok : K → Type 0) (k : K) (a : List K) (b : List L) : Type 0 where
   steps : b ≡ map h a
   okay : Ok (final k a)
 
-module _ {C G K L : Type 0} {s : Scene C G} {m : Memory G K} {n : Memory G L} {far : C → ℕ → Bool} {h : K → L} {Fine : C → Type 0} {Ok : K → Type 0} (w : Carries s m n far h Fine Ok) where
+module _ {C G K L : Type 0} {s : Scene C G} {m : Memory G K} {n : Memory G L} {h : K → L} {Fine : C → Type 0} {Ok : K → Type 0} (w : Carries s m n h Fine Ok) (far : C → ℕ → Bool) where
+  drops : (c : C) (k : K) → Ok k → dropped s n far c (h k) ≡ dropped s m far c k
+  unfolding dropped
+  drops c k o = rw (dropped, w.bounds k o)
+
   abbrev Steps : ℕ → Type 0
   Steps f = (c : C) (k : K) → Fine c → Ok k → Same h Ok k (walk s m far f c k) (walk s n far f c (h k))
 
@@ -65,12 +64,12 @@ module _ {C G K L : Type 0} {s : Scene C G} {m : Memory G K} {n : Memory G L} {f
 
   step_same : (f : ℕ) → Steps f → (c : C) (k : K) → Fine c → Ok k → (u : Bool) → dropped s m far c k ≡ u → (v : Option G) → s.group c ≡ v → Same h Ok k (walk s m far (suc f) c k) (walk s n far (suc f) c (h k))
   unfolding final
-  step_same f ih c k fine o true e v p = rw (at_drop s m far f c k e, at_drop s n far f c (h k) (w.drops c k fine o ∙ e)) (record { steps = refl; okay = o })
+  step_same f ih c k fine o true e v p = rw (at_drop s m far f c k e, at_drop s n far f c (h k) (drops c k o ∙ e)) (record { steps = refl; okay = o })
   step_same f ih c k fine o false e (some g) p =
-      rw (at_group s m far f c k e p, at_group s n far f c (h k) (w.drops c k fine o ∙ e) p, w.learns c k g fine p o) (record { steps = refl; okay = w.ok c k g fine p o })
+      rw (at_group s m far f c k e p, at_group s n far f c (h k) (drops c k o ∙ e) p, w.learns c k g fine p o) (record { steps = refl; okay = w.ok c k g fine p o })
   step_same f ih c k fine o false e none p =
       let r = chain_same f ih (s.below c) k (w.closed c fine p) o in
-      rw (at_open s m far f c k e p, at_open s n far f c (h k) (w.drops c k fine o ∙ e) p) (record { steps = ap (λ l. h k ∷ l) r.steps; okay = r.okay })
+      rw (at_open s m far f c k e p, at_open s n far f c (h k) (drops c k o ∙ e) p) (record { steps = ap (λ l. h k ∷ l) r.steps; okay = r.okay })
 
   same : (f : ℕ) → Steps f
   unfolding walk final

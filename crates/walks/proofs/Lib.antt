@@ -5,6 +5,3 @@ pub mod OrderLaws
 pub mod BestLaws
 pub mod AllowanceLaws
 pub mod CarriedLaws
-pub mod SharperLaws
-pub mod SeveralLaws
-pub mod SteadyLaws

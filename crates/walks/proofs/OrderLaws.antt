@@ -9,7 +9,7 @@ use native.Mathlib.Omega.{arith}
 use lib.Dec.{ltb}
 use lib.ListN.{get_or, drop}
 use borrow.Author.Tests.{ltb-true, ltb-false, lt-ltb, le-ltb}
-use Rattle.walks.specs.Order.{Order, first_of, first_by, before}
+use Rattle.walks.specs.Order.{Order, first_by, before}
 
 -- a test is not both true and false, and false where it is not true
 pub clash : {A : Type 0} {t : Bool} → t ≡ true → t ≡ false → A
@@ -26,7 +26,7 @@ Says f r g h false = (f h < f g) ⊎ ((f g ≡ f h) × (r g h ≡ false))
 
 module _ {G : Type 0} (f : G → ℕ) (r : G → G → Bool) where
   says : (g h : G) (t : Bool) → first_by f r g h ≡ t → Says f r g h t
-  unfolding first_of
+  unfolding first_by
   says g h t e = go t (ltb (f g) (f h)) refl (ltb (f h) (f g)) refl e
     where
       go : (t u : Bool) → ltb (f g) (f h) ≡ u → (v : Bool) → ltb (f h) (f g) ≡ v → (elim u [ true ↦ true | false ↦ elim v [ true ↦ false | false ↦ r g h ] ]) ≡ t → Says f r g h t
@@ -38,12 +38,12 @@ module _ {G : Type 0} (f : G → ℕ) (r : G → G → Bool) where
       go false false a false b p = inr (omega (arith, ltb-false (f g) (f h) a, ltb-false (f h) (f g) b), p)
 
   pub by_less : (g h : G) → f g < f h → first_by f r g h ≡ true
-  unfolding first_of
-  by_less g h l = rw (first_of, lt-ltb (f g) (f h) l)
+  unfolding first_by
+  by_less g h l = rw (first_by, lt-ltb (f g) (f h) l)
 
   pub by_even : (g h : G) → f g ≡ f h → first_by f r g h ≡ r g h
-  unfolding first_of
-  by_even g h e = rw (first_of, le-ltb (f g) (f h) (omega arith), le-ltb (f h) (f g) (omega arith))
+  unfolding first_by
+  by_even g h e = rw (first_by, le-ltb (f g) (f h) (omega arith), le-ltb (f h) (f g) (omega arith))
 
   -- the better one has no greater measure
   pub by_le : (g h : G) → first_by f r g h ≡ true → f g ≤ f h
@@ -86,12 +86,12 @@ rest : List ℕ → List ℕ → Bool
 rest k l = before (drop 1 k) (drop 1 l)
 
 irrefl : (k : List ℕ) → before k k ≡ false
-unfolding before first_of first rest
+unfolding before first_by first rest
 irrefl [] = refl
 irrefl (a ∷ k) = by_even first rest (a ∷ k) (a ∷ k) refl ∙ irrefl k
 
 trans : (j k l : List ℕ) → before j k ≡ true → before k l ≡ true → before j l ≡ true
-unfolding before first_of first rest
+unfolding before first_by first rest
 trans [] [] l p q = clash p refl
 trans [] (b ∷ k) [] p q = clash q refl
 trans [] (b ∷ k) (c ∷ l) p q = refl
@@ -100,7 +100,7 @@ trans (a ∷ j) (b ∷ k) [] p q = clash q refl
 trans (a ∷ j) (b ∷ k) (c ∷ l) p q = by_trans first rest (a ∷ j) (b ∷ k) (c ∷ l) (trans j k l) p q
 
 total : (k l : List ℕ) → before k l ≡ false → before l k ≡ false → k ≡ l
-unfolding before first_of first rest
+unfolding before first_by first rest
 total [] [] p q = refl
 total [] (b ∷ l) p q = clash refl p
 total (a ∷ k) [] p q = clash refl q

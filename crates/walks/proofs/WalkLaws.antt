@@ -71,7 +71,7 @@ pub record Drops {C G K : Type 0} (s : Scene C G) (m : Memory G K) (square : G �
   pub safe : Safe s square Fine far
 
 module _ {C G K : Type 0} {s : Scene C G} {m : Memory G K} {square : G → ℕ} {Fine : C → Type 0} {Ok : K → Type 0} {far : C → ℕ → Bool} (w : Drops s m square Fine Ok far) where
-  pub ok_fold : (k : K) (l : List G) → Ok k → Ok (fold m.learn k l)
+  ok_fold : (k : K) (l : List G) → Ok k → Ok (fold m.learn k l)
   unfolding fold
   ok_fold k [] o = o
   ok_fold k (g ∷ l) o = ok_fold (m.learn k g) l (w.law.ok k g o)

@@ -4,4 +4,3 @@ pub mod Walk
 pub mod Order
 pub mod Best
 pub mod Allowance
-pub mod Several

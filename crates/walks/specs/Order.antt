@@ -8,12 +8,9 @@ pub record Order {G : Type 0} (better : G → G → Bool) : Type 0 where
   pub trans : (g h i : G) → better g h ≡ true → better h i ≡ true → better g i ≡ true
   pub total : (g h : G) → better g h ≡ false → better h g ≡ false → g ≡ h
 
--- the less of two numbers first, and among equals by the rest
-unfoldable pub first_of : ℕ → ℕ → Bool → Bool
-first_of a b rest = elim (ltb a b) [ true ↦ true | false ↦ elim (ltb b a) [ true ↦ false | false ↦ rest ] ]
-
-abbrev pub first_by : {G : Type 0} → (G → ℕ) → (G → G → Bool) → G → G → Bool
-first_by f rest g h = first_of (f g) (f h) (rest g h)
+-- less by f, and among equals by rest
+unfoldable pub first_by : {G : Type 0} → (G → ℕ) → (G → G → Bool) → G → G → Bool
+first_by f rest g h = elim (ltb (f g) (f h)) [ true ↦ true | false ↦ elim (ltb (f h) (f g)) [ true ↦ false | false ↦ rest g h ] ]
 
 -- dictionary order
 unfoldable pub before : List ℕ → List ℕ → Bool

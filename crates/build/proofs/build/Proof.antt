@@ -11,7 +11,8 @@ use Rattle.tree.specs.Rules.{Room, lengths}
 use Rattle.verdict.specs.Rules.{AllHold}
 use Rattle.verdict.proofs.RuleLaws.{all_hold, passed}
 use Rattle.build.specs.Room.{build_rules}
-use Rattle.build.proofs.BuildLaws.{plotted, kept, Needs, room_of, downward, written}
+use Rattle.levels.proofs.LaidLaws.{laid_of}
+use Rattle.build.proofs.BuildLaws.{plotted, kept, Needs, room_of, written}
 use Rattle.build.proofs.build.Statement.{statement}
 use Rattle.build.proofs.build.Tie as tie
 
@@ -84,9 +85,11 @@ fill-values-requires c κs =
     let e = c.before.before.before.before.before.before.before.before.before.before.before in
     let u = (runs e).fill-runs.ensures in
     let l = counted (runs e) in
+    let a = (start l).args in
+    let n = needed l in
     let r = room l in (
-      downward (needed l) (treeAt (start l)) u.0 u.1.0 u.1.1 e.fill-entries.ensures,
-      (valid_even (valid (passing l)), (r.x_lo, (r.x_hi, (r.y_lo, (r.y_hi, r.kits))))),
+      laid_of n.few n.nodes_is _ _ _ _ u.0 u.1.0 u.1.1 e.fill-entries.ensures,
+      ((n.nodes_is, valid_even (valid (passing l))), (r.x_lo, (r.x_hi, (r.y_lo, (r.y_hi, r.kits))))),
     )
 
 same_length : tie.Need-same-length
@@ -123,8 +126,7 @@ returns-2 c =
     let l = counted (runs e) in
     let u = (runs e).fill-runs.ensures in
     let v = f.fill-values.ensures in
-    let a = f.fill-values.new.1.1.1.1.1.1.1.1 in
-    (sym (all_hold _ (allowed (passing l))), written (needed l) (treeAt (start l)) u.0 u.1.0 u.1.1 e.fill-entries.ensures (sides a.0 a.1.0 a.1.1.0 a.1.1.1.0) a.1.1.1.1.0 v.0 v.1)
+    (sym (all_hold _ (allowed (passing l))), written (needed l) (treeAt (start l)) u.0 u.1.0 u.1.1 e.fill-entries.ensures v.0 v.1.0 v.1.1.0 v.1.1.1.0 v.1.1.1.1)
 
 pub build_spec : {M : Type 1} → statement M
 build_spec =

@@ -1,40 +1,44 @@
--- All that comes of an opened candidate is taken as the walk takes it. The measure is the sum of the members' levels.
--- Assumes nothing.
 use mathlib.Core.Path.{◌≡◌, refl, sym, ap, ap₂, subst, ◌∙◌}
 use mathlib.Core.Bool.{Bool, true, false}
-use mathlib.Core.List.{List}
-use mathlib.Core.Option.{none, some}
-use Prim.Native.Nat.{ℕ, ◌+◌, ◌-◌, ◌≤◌, ◌<◌}
+use mathlib.Core.List.{List, map}
+use mathlib.Core.Option.{none}
+use Prim.Native.Nat.{ℕ, suc, ◌+◌, ◌-◌, ◌*◌, ◌≤◌, ◌<◌}
+use native.Mathlib.Decide.{dec_lt}
 use native.Mathlib.Omega.{arith}
 use borrow.Author.Rules.{rules}
 use borrow.Author.Tests.{not-true, not-false}
 use borrow.Fn.Kinds.{In}
 use borrow.Fn.PlainCycle.{Measures, is, falls, and}
-use lib.ListN.{length, take, get_or, set}
+use mir.Syntax.{w32}
+use mir.Val.{of_z, to_z}
+use mir.Facts.{to_z-of_z}
+use lib.IntN.{ℤ}
+use lib.ListN.{length, take, get_or, set, length-set}
 use Rattle.plane.specs.Plane.{Ranged}
 use Rattle.plane.specs.declared.Box.{Box}
+use Rattle.plane.proofs.SignedLaws.{fit}
 use Rattle.table.specs.Table.{Table, table}
-use Rattle.tree.specs.Tree.{Tree, Sides, Thing, thing, box_of}
+use Rattle.tree.specs.Tree.{Tree, Sides, Thing, thing, level, box_of}
 use Rattle.tree.specs.Lent.{shape, sides, tree}
 use Rattle.tree.specs.Rules.{lengths, Room}
 use Rattle.walks.specs.Allowance.{Stand, stand}
-use Rattle.walks.specs.Walk.{Memory}
-use Rattle.closest.specs.Group.{spread}
-use Rattle.closest.specs.Candidate.{topmost, group_of, entry}
-use Rattle.closest.specs.Walk.{holds, boxes}
-use Rattle.members.specs.Boxes.{without, put, boxes_at}
-use Rattle.members.specs.Boxes as once
-use Rattle.members.specs.Levels.{levels_at, level_sum, next_top, next_high}
-use Rattle.members.specs.Kept.{Kept, kept_at, kept, within}
-use Rattle.members.proofs.BoxesLaws.{within_so, beyond_so}
-use Rattle.members.proofs.LevelLaws.{high_last}
+use Rattle.closest.specs.Group.{farthest}
+use Rattle.closest.specs.Candidate.{member, topmost, group_of, entry}
+use Rattle.closest.specs.Walk.{holds}
+use Rattle.members.specs.Boxes.{without, AllRanged, boxes_at}
+use Rattle.members.specs.Levels.{levels_at, next_top, next_high}
+use Rattle.members.specs.Best.{best_at, near}
+use Rattle.members.specs.declared.Best.{Best}
+use Rattle.members.proofs.LevelLaws.{top_on, top_back, high_on, high_back, top_in, high_last, levels_eight, levels_next}
 use Rattle.groups.specs.Members.{Member, boxes_of, members_at, things_of}
-use Rattle.groups.specs.Opening.{InColumns, Led}
-use Rattle.groups.proofs.EntryLaws.{Reads}
+use Rattle.groups.specs.Opening.{Opened, Led}
+use Rattle.groups.specs.Leads.{Near}
+use Rattle.groups.specs.declared.Opening.{Opening}
+use Rattle.groups.proofs.EntryLaws.{meets, ranged, Reads}
 use Rattle.groups.proofs.RunLaws.{kind_small, in_list, in_few, is_entry, real, reads}
-use Rattle.groups.proofs.ColumnLaws.{Beside, beside_self, beside_put, moved}
-use Rattle.groups.proofs.NextLaws.{Ready, next}
-use Rattle.groups.proofs.OpenedLaws.{lead_inside, lead_small, lead_high, lead_there, sum_less, in_range, ready, stay_in, wide_set, next_more, next_in, next_led}
+use Rattle.groups.proofs.ColumnLaws.{boxes_of_lem, Eight, put, eight_put, members_set, Beside, beside_self, beside_put, others_same}
+use Rattle.groups.proofs.OpenLaws.{boxes_ranged}
+use Rattle.groups.proofs.NextLaws.{Ready, lower, next, next_long, next_fair, next_things, lower_is, top_below, more_below, member_is, comes, near_so, far_so, lead_inside, lead_high, lead_there, ready as made-ready, levels_down}
 use Rattle.groups.proofs.LoopLaws.{Going, at_first, over, skips, spends, drops, goes_on, stops}
 use Rattle.descent.proofs.descend.Reads as descend
 use Rattle.descent.proofs.descend.Kinds as descend-kinds
@@ -45,24 +49,30 @@ use Rattle.members.proofs.holds_at.Reads as holds-at-reads
 use Rattle.members.proofs.is_near.Reads as is-near-reads
 use Rattle.members.proofs.next_high.Reads as next-high-reads
 use Rattle.members.proofs.next_top.Reads as next-top-reads
-use Rattle.members.proofs.put_member.Reads as put-member-reads
+use Rattle.members.proofs.put16.Reads as put16-reads
+use Rattle.members.proofs.put32.Reads as put32-reads
 use Rattle.members.proofs.take_step.Reads as take-step-reads
 use Rattle.groups.proofs.open_at.Reads as open-at-reads
 use Rattle.groups.proofs.take_groups.Reads as take-groups-reads
 use Rattle.descent.proofs.+descend.{statement}
 use Rattle.descent.proofs.+descend.Tie.{close}
 
-abbrev μ-descend : Measures 20 descend-kinds.ps ℕ
-μ-descend κs a = let b = a.1.1.1.1.1.1.1.1.1.1.1.1.1.1.1 in level_sum b.0 b.1.1.0 b.1.1.1.0
+-- the levels go down in turn
+abbrev μ-descend : Measures 16 descend-kinds.ps ℕ
+μ-descend κs a = let b = a.1.1.1.1.1.1.1.1.1.1.1.1.1.1.1.1.1 in b.1.0 * 8 + 8 - b.0
 
-abbrev descend_at : ℕ → In 20 descend-kinds.ps
-descend_at t = and 20 descend-kinds.ps (is 20 descend-kinds.ps μ-descend t) descend.Pre
+abbrev descend_at : ℕ → In 16 descend-kinds.ps
+descend_at t = and 16 descend-kinds.ps (is 16 descend-kinds.ps μ-descend t) descend.Pre
 
-abbrev descend_below : ℕ → In 20 descend-kinds.ps
-descend_below t = and 20 descend-kinds.ps (falls 20 descend-kinds.ps ◌<◌ μ-descend t) descend.Pre
+abbrev descend_below : ℕ → In 16 descend-kinds.ps
+descend_below t = and 16 descend-kinds.ps (falls 16 descend-kinds.ps ◌<◌ μ-descend t) descend.Pre
 
 abbrev claims : ℕ → lts.Claims
 claims t = (
+  put16-reads.Asked,
+  put16-reads.Learnt,
+  put32-reads.Asked,
+  put32-reads.Learnt,
   next-top-reads.Asked,
   next-top-reads.Learnt,
   next-high-reads.Asked,
@@ -81,27 +91,39 @@ claims t = (
   box-of-reads.Learnt,
   is-near-reads.Asked,
   is-near-reads.Learnt,
-  put-member-reads.Asked,
-  put-member-reads.Learnt,
   descend_below t,
   descend.Post,
 )
 
--- what is left leads to where all led; the largest distance of the members that stay is taken at most once; the function's own columns are the lent ones but for the replaced member
+-- the columns are those of the candidate, but for the replaced member
 abbrev invariant-loop : lts.invariant-loop
-invariant-loop level start count entries x y kit x_lo x_hi y_lo y_hi kits nodes listed kinds m allowance top high numbers west east south north steps₀ bound₀ places₀ next lower o was rest₀ names₀ wests₀ easts₀ souths₀ norths₀ k₀ steps bound places rest names wests easts souths norths k =
-    Going (table x y kit) (tree (shape nodes listed level start count entries) (sides x_lo x_hi y_lo y_hi) kits) (boxes (table x y kit) (tree (shape nodes listed level start count entries) (sides x_lo x_hi y_lo y_hi) kits)) (kept (table x y kit) m) (take m kinds) allowance m (members_at (levels_at m top high) numbers (sides west east south north)) top o (stand steps₀ false (kept_at bound₀ places₀)) steps (kept_at bound places) k
-    × (once.Taken rest (spread (without top (take m (boxes_at (sides west east south north))))) × (Beside top names (sides wests easts souths norths) numbers (sides west east south north) × (length places ≡ 8)))
+invariant-loop level start count entries x y kit x_lo x_hi y_lo y_hi kits nodes listed kinds m allowance top high at number w e s n steps₀ known₀ squared₀ places₀ names₀ wests₀ easts₀ souths₀ norths₀ next lower o left k₀ steps known squared places names wests easts souths norths k =
+    Going (table x y kit) (tree (shape nodes listed level start count entries) (sides x_lo x_hi y_lo y_hi) kits) (take m kinds) allowance m (members_at (levels_at m top high) names₀ (sides wests₀ easts₀ souths₀ norths₀)) o (stand steps₀ false (best_at known₀ squared₀ places₀)) steps (best_at known squared places) k
+    × (Beside top names (sides wests easts souths norths) names₀ (sides wests₀ easts₀ souths₀ norths₀) × (Eight names (sides wests easts souths norths) × AllRanged (take m (boxes_at (sides wests easts souths norths)))))
 
 abbrev decreases-loop : lts.decreases-loop
-decreases-loop level start count entries x y kit x_lo x_hi y_lo y_hi kits nodes listed kinds m allowance top high numbers west east south north steps₀ bound₀ places₀ next lower o was rest₀ names₀ wests₀ easts₀ souths₀ norths₀ k₀ steps bound places rest names wests easts souths norths k =
+decreases-loop level start count entries x y kit x_lo x_hi y_lo y_hi kits nodes listed kinds m allowance top high at number w e s n steps₀ known₀ squared₀ places₀ names₀ wests₀ easts₀ souths₀ norths₀ next lower o left k₀ steps known squared places names wests easts souths norths k =
     o.many - k
 
-module _ (t : ℕ) where
-  -- ---- the places that the proof speaks of: the start, the opened candidate, the loop, an entry, the test of its candidate, and its call
+-- a side, as it goes through the machine's bits
+abbrev passed : ℤ → ℤ
+passed z = to_z w32 (of_z w32 z)
 
+abbrev Told : Box → Type 0
+Told b = (passed b.x.lo ≡ b.x.lo) × ((passed b.x.hi ≡ b.x.hi) × ((passed b.y.lo ≡ b.y.lo) × (passed b.y.hi ≡ b.y.hi)))
+
+put_told : (e : Sides) (i : ℕ) (b : Box) → Told b → sides (set e.x_lo i (passed b.x.lo)) (set e.x_hi i (passed b.x.hi)) (set e.y_lo i (passed b.y.lo)) (set e.y_hi i (passed b.y.hi)) ≡ put e i b
+put_told e i b (p, (q, (r, o))) =
+    ap₂ (λ (u v : ℤ). sides (set e.x_lo i u) (set e.x_hi i v) (set e.y_lo i (passed b.y.lo)) (set e.y_hi i (passed b.y.hi))) p q
+    ∙ ap₂ (λ (u v : ℤ). sides (set e.x_lo i b.x.lo) (set e.x_hi i b.x.hi) (set e.y_lo i u) (set e.y_hi i v)) r o
+
+module _ (t : ℕ) where
+  -- the places that the proof speaks of
   abbrev Start : Type 0
   Start = lts.Start (claims t) (descend_at t) descend.Post invariant-loop decreases-loop
+
+  abbrev Made : Type 0
+  Made = lts.After-put324 (claims t) (descend_at t) descend.Post invariant-loop decreases-loop
 
   abbrev Turned : Type 0
   Turned = lts.After-next-high (claims t) (descend_at t) descend.Post invariant-loop decreases-loop
@@ -109,446 +131,735 @@ module _ (t : ℕ) where
   abbrev Open : Type 0
   Open = lts.After-open-at (claims t) (descend_at t) descend.Post invariant-loop decreases-loop
 
+  abbrev Deep : Type 0
+  Deep = lts.After-next-high2 (claims t) (descend_at t) descend.Post invariant-loop decreases-loop
+
   abbrev Loop : Type 0
   Loop = lts.At-loop (claims t) (descend_at t) descend.Post invariant-loop decreases-loop
 
   abbrev Entry : Type 0
-  Entry = lts.Then2 (claims t) (descend_at t) descend.Post invariant-loop decreases-loop
+  Entry = lts.After-struct-known2 (claims t) (descend_at t) descend.Post invariant-loop decreases-loop
 
   abbrev Asked : Type 0
   Asked = lts.After-holds-at (claims t) (descend_at t) descend.Post invariant-loop decreases-loop
 
-  abbrev Stepped : Type 0
-  Stepped = lts.Else4 (claims t) (descend_at t) descend.Post invariant-loop decreases-loop
-
   abbrev Boxed : Type 0
   Boxed = lts.After-box-of (claims t) (descend_at t) descend.Post invariant-loop decreases-loop
 
-  abbrev Tested : Type 0
-  Tested = lts.After-is-near (claims t) (descend_at t) descend.Post invariant-loop decreases-loop
+  abbrev Measured : Type 0
+  Measured = lts.After-is-near (claims t) (descend_at t) descend.Post invariant-loop decreases-loop
 
   abbrev Come : Type 0
-  Come = lts.Then5 (claims t) (descend_at t) descend.Post invariant-loop decreases-loop
+  Come = lts.After-by (claims t) (descend_at t) descend.Post invariant-loop decreases-loop
 
   abbrev Put : Type 0
-  Put = lts.After-put-member (claims t) (descend_at t) descend.Post invariant-loop decreases-loop
+  Put = lts.After-put328 (claims t) (descend_at t) descend.Post invariant-loop decreases-loop
+
+  abbrev Grouped : Type 0
+  Grouped = lts.After-take-groups2 (claims t) (descend_at t) descend.Post invariant-loop decreases-loop
+
+  abbrev Sent : Type 0
+  Sent = lts.After-struct-told8 (claims t) (descend_at t) descend.Post invariant-loop decreases-loop
 
   abbrev Taken : Type 0
   Taken = lts.After-descend (claims t) (descend_at t) descend.Post invariant-loop decreases-loop
 
-  abbrev begin : Turned → Start
-  begin c = c.before.before.before.before.before.before.before.before
+  abbrev begin : Made → Start
+  begin c = c.before.before.before.before.before.before.before.before.before.before.before.before.before.before.before.before
+
+  abbrev made : Turned → Made
+  made c = c.before.before
 
   abbrev turned : Open → Turned
-  turned c = c.before.before.before
+  turned c = c.before.before
 
   abbrev opened : Loop → Open
-  opened c = c.before.before.before.before.before.before.before
+  opened c = c.before.before
 
   abbrev round : Entry → Loop
-  round c = c.before.before
+  round c = c.before.before.before
 
-  abbrev asked : Asked → Entry
-  asked c = c.before.before
+  abbrev at : Asked → Entry
+  at c = c.before
 
-  abbrev stepped : Stepped → Asked
-  stepped c = c.before.before.before.before
+  abbrev shown : Boxed → Asked
+  shown c = c.before.before.before.before.before.before.before
 
-  abbrev boxed : Boxed → Stepped
-  boxed c = c.before.before.before
+  abbrev boxed : Measured → Boxed
+  boxed c = c.before.before.before.before.before.before
 
-  abbrev tested : Tested → Boxed
-  tested c = c.before.before.before
+  abbrev measured : Come → Measured
+  measured c = c.before.before.before
 
-  abbrev at : Tested → Entry
-  at c = asked (stepped (boxed (tested c)))
+  abbrev first : Open → Made
+  first o = made (turned o)
 
-  abbrev come : Put → Come
-  come c = c.before.before.before.before.before.before
+  abbrev entered : Come → Entry
+  entered c = at (shown (boxed (measured c)))
 
-  abbrev putter : Taken → Put
-  putter c = c.before.before.before.before.before.before.before.before.before
+  abbrev opener : Come → Open
+  opener c = opened (round (entered c))
 
-  -- ---- the start
+  abbrev places : Start → Table
+  places s = table s.args.x.now s.args.y.now s.args.kit.now
 
-  module _ (s : Start) where
-    abbrev places : Table
-    places = table s.args.x.now s.args.y.now s.args.kit.now
+  abbrev over_tree : Start → Tree
+  over_tree s =
+      tree (shape s.args.nodes s.args.listed s.args.level.now s.args.start.now s.args.count.now s.args.entries.now)
+      (sides s.args.x_lo.now s.args.x_hi.now s.args.y_lo.now s.args.y_hi.now) s.args.kits.now
 
-    abbrev over_tree : Tree
-    over_tree =
-        tree (shape s.args.nodes s.args.listed s.args.level.now s.args.start.now s.args.count.now s.args.entries.now)
-        (sides s.args.x_lo.now s.args.x_hi.now s.args.y_lo.now s.args.y_hi.now) s.args.kits.now
+  abbrev wanted : Start → List ℕ
+  wanted s = take s.args.m s.args.kinds
 
-    abbrev own : ℕ → Thing → Box
-    own = boxes places over_tree
+  abbrev best_of : Start → Best
+  best_of s = best_at s.args.known.now s.args.squared.now s.args.places.now
 
-    abbrev memory : Memory (List ℕ) Kept
-    memory = kept places s.args.m
+  abbrev levels_in : Start → List ℕ
+  levels_in s = levels_at s.args.m s.args.top s.args.high
 
-    abbrev wanted : List ℕ
-    wanted = take s.args.m s.args.kinds
+  -- the candidate in its columns, as it is called for and as the code has it
+  abbrev called : Start → List Member
+  called s =
+      members_at (levels_in s) (set s.args.numbers s.args.at s.args.number)
+      (sides (set s.args.west s.args.at s.args.w) (set s.args.east s.args.at s.args.e) (set s.args.south s.args.at s.args.s) (set s.args.north s.args.at s.args.n))
 
-    abbrev ends : Sides
-    ends = sides s.args.west.now s.args.east.now s.args.south.now s.args.north.now
+  abbrev names : Made → List ℕ
+  names d = d.before.before.before.before.before.before.before.before.put16.last.0
 
-    abbrev columns : ℕ → ℕ → List ℕ → Sides → List Member
-    columns top high numbers b = members_at (levels_at s.args.m top high) numbers b
+  abbrev ends : Made → Sides
+  ends d =
+      sides d.before.before.before.before.before.before.put32.last.0 d.before.before.before.before.put322.last.0 d.before.before.put323.last.0 d.put324.last.0
 
-    abbrev cand : List Member
-    cand = columns s.args.top s.args.high s.args.numbers.now ends
+  abbrev cand : Made → List Member
+  cand d = members_at (levels_in (begin d)) (names d) (ends d)
 
-    abbrev things : List Thing
-    things = things_of (take s.args.m cand)
+  abbrev things : Made → List Thing
+  things d = things_of (take (begin d).args.m (cand d))
 
-    abbrev from : Stand Kept
-    from = stand s.args.steps.now false (kept_at s.args.bound.now s.args.places.now)
+  -- the columns after the member was put in
+  names_so : (d : Made) → let s = begin d in names d ≡ set s.args.numbers s.args.at s.args.number
+  names_so d = d.before.before.before.before.before.before.before.before.put16.ensures
 
-    abbrev Opens : ℕ → ℕ → List ℕ → Sides → ℕ → Type 0
-    Opens top high numbers b bound = InColumns places over_tree own s.args.kinds s.args.m top high numbers b (some bound)
+  west_so : (d : Made) → let s = begin d in (ends d).x_lo ≡ set s.args.west s.args.at s.args.w
+  west_so d = let s = begin d in d.before.before.before.before.before.before.put32.ensures ∙ ap (set s.args.west s.args.at) (to_z-of_z s.fits.w)
 
-    abbrev Leads : List Member → ℕ → Stand Kept → Stand Kept → Type 0
-    Leads l i v w = Led places over_tree own memory wanted s.args.allowance s.args.m l i v w
+  east_so : (d : Made) → let s = begin d in (ends d).x_hi ≡ set s.args.east s.args.at s.args.e
+  east_so d = let s = begin d in d.before.before.before.before.put322.ensures ∙ ap (set s.args.east s.args.at) (to_z-of_z s.fits.e)
 
-    q : Opens s.args.top s.args.high s.args.numbers.now ends s.args.bound.now
-    q = s.pre.1.0
+  south_so : (d : Made) → let s = begin d in (ends d).y_lo ≡ set s.args.south s.args.at s.args.s
+  south_so d = let s = begin d in d.before.before.put323.ensures ∙ ap (set s.args.south s.args.at) (to_z-of_z s.fits.s)
 
-    few : s.args.m ≤ 8
-    few = q.few.most
+  north_so : (d : Made) → let s = begin d in (ends d).y_hi ≡ set s.args.north s.args.at s.args.n
+  north_so d = let s = begin d in d.put324.ensures ∙ ap (set s.args.north s.args.at) (to_z-of_z s.fits.n)
+
+  cand_so : (d : Made) → called (begin d) ≡ cand d
+  cand_so d =
+      sym (ap₂ (members_at (levels_in (begin d))) (names_so d)
+      (ap₂ (λ (a b : List ℤ). sides a b (ends d).y_lo (ends d).y_hi) (west_so d) (east_so d)
+      ∙ ap₂ (λ (a b : List ℤ). sides (set (begin d).args.west (begin d).args.at (begin d).args.w) (set (begin d).args.east (begin d).args.at (begin d).args.e) a b) (south_so d) (north_so d)))
+
+  eight_in : (s : Start) → Eight s.args.numbers (sides s.args.west s.args.east s.args.south s.args.north)
+  eight_in s = record {
+    number = search rules;
+    x_lo = search (rules, s.well-formed.1.1.1.1.1.1.1.1.1.1.1.1.1.1.1.1.1.1.1.1.0);
+    x_hi = search (rules, s.well-formed.1.1.1.1.1.1.1.1.1.1.1.1.1.1.1.1.1.1.1.1.1.0);
+    y_lo = search (rules, s.well-formed.1.1.1.1.1.1.1.1.1.1.1.1.1.1.1.1.1.1.1.1.1.1.0);
+    y_hi = search (rules, s.well-formed.1.1.1.1.1.1.1.1.1.1.1.1.1.1.1.1.1.1.1.1.1.1.1.0);
+  }
+
+  eight : (d : Made) → Eight (names d) (ends d)
+  eight d =
+      let s = begin d in
+      record {
+        number = ap length (names_so d) ∙ length-set s.args.numbers s.args.at s.args.number ∙ (eight_in s).number;
+        x_lo = ap length (west_so d) ∙ length-set s.args.west s.args.at s.args.w ∙ (eight_in s).x_lo;
+        x_hi = ap length (east_so d) ∙ length-set s.args.east s.args.at s.args.e ∙ (eight_in s).x_hi;
+        y_lo = ap length (south_so d) ∙ length-set s.args.south s.args.at s.args.s ∙ (eight_in s).y_lo;
+        y_hi = ap length (north_so d) ∙ length-set s.args.north s.args.at s.args.n ∙ (eight_in s).y_hi;
+      }
+
+  open_so : (d : Made) → let s = begin d in Opened (places s) (over_tree s) (wanted s) s.args.m (cand d) s.args.top (best_of s)
+  open_so d = let s = begin d in subst (λ (l : List Member). Opened (places s) (over_tree s) (wanted s) s.args.m l s.args.top (best_of s)) (cand_so d) s.pre.1.1.1.1
+
+  few : (d : Made) → (begin d).args.m ≤ 8
+  few d = (begin d).pre.1.1.1.0.most
+
+  inside : (d : Made) → (begin d).args.top < (begin d).args.m
+  inside d = let s = begin d in lead_inside s.pre.1.1.0 s.args.kinds s.args.m (few d) s.args.top s.args.high (names d) (ends d) (open_so d)
+
+  top_few : (d : Made) → (begin d).args.top < 8
+  top_few d = omega (arith, inside d, few d)
+
+  high_so : (d : Made) → 0 < (begin d).args.high
+  high_so d = let s = begin d in lead_high s.pre.1.1.0 s.args.kinds s.args.m (few d) s.args.top s.args.high (names d) (ends d) (open_so d)
+
+  put16-requires : lts.Need-put16-requires (claims t) (descend_at t) descend.Post invariant-loop decreases-loop
+  put16-requires c κs = c.before.before.before.before.before.before.before.requires.1.0
+
+  put32-requires : lts.Need-put32-requires (claims t) (descend_at t) descend.Post invariant-loop decreases-loop
+  put32-requires c κs = c.before.before.before.before.before.before.before.before.before.requires.1.0
+
+  put32-requires-2 : lts.Need-put32-requires-2 (claims t) (descend_at t) descend.Post invariant-loop decreases-loop
+  put32-requires-2 c κs = c.before.before.before.before.before.before.before.before.before.before.before.requires.1.0
+
+  put32-requires-3 : lts.Need-put32-requires-3 (claims t) (descend_at t) descend.Post invariant-loop decreases-loop
+  put32-requires-3 c κs = c.before.before.before.before.before.before.before.before.before.before.before.before.before.requires.1.0
+
+  put32-requires-4 : lts.Need-put32-requires-4 (claims t) (descend_at t) descend.Post invariant-loop decreases-loop
+  put32-requires-4 c κs = c.before.before.before.before.before.before.before.before.before.before.before.before.before.before.before.requires.1.0
 
   next-top-requires : lts.Need-next-top-requires (claims t) (descend_at t) descend.Post invariant-loop decreases-loop
-  next-top-requires c κs = let s : Start = c.before.before.before.before.before.before in (few s, lead_inside (q s))
+  next-top-requires c κs = (few c, inside c)
 
   next-high-requires : lts.Need-next-high-requires (claims t) (descend_at t) descend.Post invariant-loop decreases-loop
-  next-high-requires c κs = let s : Start = c.before.before.before.before.before.before.before in (few s, (lead_inside (q s), lead_high (q s)))
+  next-high-requires c κs = (few c.before, (inside c.before, high_so c.before))
 
   -- ---- a candidate of which groups come
 
-  leaf_so : (c : lts.Then1 (claims t) (descend_at t) descend.Post invariant-loop decreases-loop) → let s = begin c.before in (s.args.top + 1 ≡ s.args.m) × (s.args.high ≡ 1)
-  leaf_so c = let s = begin c.before in high_last s.args.m s.args.top s.args.high (lead_inside (q s)) (lead_high (q s)) (sym c.before.next_high_lem.ensures ∙ c.if1.true)
-
   take-groups-requires : lts.Need-take-groups-requires (claims t) (descend_at t) descend.Post invariant-loop decreases-loop
   take-groups-requires c κs =
-      let shut = c.before.before.before in
-      let s = begin shut.before in
-      let last = leaf_so shut in
-      (subst (λ (v : ℕ). Opens s s.args.top v s.args.numbers.now (ends s) s.args.bound.now) last.1 (q s), (last.0, s.pre.1.1))
+      let shut = c.before.before.before.before.before.before.before.before.before in
+      let d = made shut.before in
+      let s = begin d in
+      let last = high_last s.args.m s.args.top s.args.high (inside d) (high_so d) (sym shut.before.next-high.ensures ∙ shut.if1.true) in (
+        s.pre.1.1.0,
+        (
+          (s.pre.1.1.1.0, last.0),
+          (
+            subst (λ (v : ℕ). Opened (places s) (over_tree s) (wanted s) s.args.m (members_at (levels_at s.args.m s.args.top v) (names d) (ends d)) s.args.top (best_of s)) last.1 (open_so d),
+            (eight d).number,
+          ),
+        ),
+      )
+
+  -- an end, as it is called for
+  ends_so : (d : Made) (to : Stand Best) → let s = begin d in Led (places s) (over_tree s) (wanted s) s.args.allowance s.args.m (cand d) s.args.top (stand s.args.steps.now false (best_of s)) to →
+      Led (places s) (over_tree s) (wanted s) s.args.allowance s.args.m (called s) s.args.top (stand s.args.steps.now false (best_of s)) to
+  ends_so d to e = let s = begin d in subst (λ (l : List Member). Led (places s) (over_tree s) (wanted s) s.args.allowance s.args.m l s.args.top (stand s.args.steps.now false (best_of s)) to) (sym (cand_so d)) e
 
   returns : lts.Need-returns (claims t) (descend_at t) descend.Post invariant-loop decreases-loop
   returns c =
-      let shut = c.before.before.before.before in
-      let s = begin shut.before in
+      let shut = c.before.before.before.before.before.before.before.before.before.before in
+      let d = made shut.before in
+      let s = begin d in
       let last = c.take-groups.new.1.1.1.1.1.1.1.1.1.1.1.1.1.1.1.1.1.1.1.1.1.1.1 in
-      let to : Stand Kept = stand last.0 c.take-groups.result (kept_at last.1.0 last.1.1.0) in
-      (subst (λ (v : ℕ). Leads s (columns s s.args.top v s.args.numbers.now (ends s)) s.args.top (from s) to) (sym (leaf_so shut).1) c.take-groups.ensures.0, c.take-groups.ensures.1)
+      let to : Stand Best = stand last.0 c.take-groups.result (best_at last.1.0 last.1.1.0 last.1.1.1.0) in
+      let leaf = high_last s.args.m s.args.top s.args.high (inside d) (high_so d) (sym shut.before.next-high.ensures ∙ shut.if1.true) in
+      ends_so d to
+      (subst (λ (v : ℕ). Led (places s) (over_tree s) (wanted s) s.args.allowance s.args.m (members_at (levels_at s.args.m s.args.top v) (names d) (ends d)) s.args.top (stand s.args.steps.now false (best_of s)) to) (sym leaf.1)
+      c.take-groups.ensures)
 
   -- ---- any other is opened
 
   mul-open-at : lts.Need-overflow-mul-open-at (claims t) (descend_at t) descend.Post invariant-loop decreases-loop
-  mul-open-at c = omega (arith, lead_small (q (begin c.before)))
+  mul-open-at c = omega (arith, top_few (made c.before))
 
-  element-copy-out-open-at : lts.Need-element-copy-out-open-at (claims t) (descend_at t) descend.Post invariant-loop decreases-loop
-  element-copy-out-open-at c = lead_small (q (begin c.before))
+  array-read-open-at : lts.Need-array-read-open-at (claims t) (descend_at t) descend.Post invariant-loop decreases-loop
+  array-read-open-at c = top_few (made c.before)
 
   open-at-requires : lts.Need-open-at-requires (claims t) (descend_at t) descend.Post invariant-loop decreases-loop
   open-at-requires c κs =
-      let s = begin c.before.before in
-      let there : get_or s.args.numbers.now s.args.top 0 < s.args.nodes = lead_there (q s) in
-      let room : Room s.args.nodes s.args.listed (lengths (over_tree s)) = (q s).walkable.counted.room in
+      let d = made c.before in
+      let s = begin d in
+      let there : get_or (names d) s.args.top 0 < s.args.nodes = lead_there s.pre.1.1.0 s.args.kinds s.args.m (few d) s.args.top s.args.high (names d) (ends d) (open_so d) in
+      let room : Room s.args.nodes s.args.listed (lengths (over_tree s)) = (meets s.pre.1.1.0).counted.room in
       (omega (arith, there, room.start), omega (arith, there, room.count))
 
-  module _ (o : Open) where
-    abbrev first : Start
-    first = begin (turned o)
+  -- the candidate is ready to be opened
+  ready : (c : Open) → let s = begin (first c) in Ready (places s) (over_tree s) (wanted s) s.args.m (cand (first c)) c.open_at.result
+  ready c =
+      let d = first c in
+      let s = begin d in
+      made-ready s.pre.1.1.0 s.args.kinds s.args.m (few d) s.args.top s.args.high (names d) (ends d) (open_so d) c.open_at.result c.open_at.ensures
 
-    abbrev top : ℕ
-    top = first.args.top
+  top_so : (c : Open) → c.open_at.result.top ≡ (begin (first c)).args.top
+  top_so c = ap (λ (o : Opening). o.top) c.open_at.ensures
 
-    can : Ready (places first) (over_tree first) (own first) (wanted first) first.args.m (cand first) top o.open_at.result
-    can = ready (q first) o.open_at.ensures
+  -- the levels of its next candidates, as the code has them
+  next_so : (c : Open) → let s = begin (first c) in (turned c).before.next-top.result ≡ next_top s.args.m s.args.top
+  next_so c = (turned c).before.next-top.ensures
 
-    -- what comes next, as the code has it
-    abbrev next_top_lem : ℕ
-    next_top_lem = (turned o).before.next_top_lem.result
+  lower_so : (c : Open) → let s = begin (first c) in (turned c).next-high.result ≡ next_high s.args.m s.args.top s.args.high
+  lower_so c = (turned c).next-high.ensures
 
-    abbrev next_high_lem : ℕ
-    next_high_lem = (turned o).next_high_lem.result
+  some_lower : (c : Open) → 0 < (turned c).next-high.result
+  some_lower c = omega (arith, c.before.if1.false)
 
-    next_so : next_top first.args.m top ≡ next_top_lem
-    next_so = sym (turned o).before.next_top_lem.ensures
-
-    lower_so : next_high first.args.m top first.args.high ≡ next_high_lem
-    lower_so = sym (turned o).next_high_lem.ensures
-
-    more : 0 < next_high first.args.m top first.args.high
-    more = omega (arith, lower_so, o.before.before.if1.left)
-
-    -- the largest distance of the members that stay; the bound by which the candidate was tested is not below it
-    abbrev rest : ℕ
-    rest = spread (without top (take first.args.m (boxes_at (ends first))))
-
-    stayed : rest ≤ first.args.bound.now
-    stayed = omega (arith, stay_in (q first) o.open_at.ensures, (q first).opened.near)
+  next-high-requires-2 : lts.Need-next-high-requires-2 (claims t) (descend_at t) descend.Post invariant-loop decreases-loop
+  next-high-requires-2 c κs =
+      let d = first c in
+      let s = begin d in
+      (few d, (omega (arith, next_so c, top_in s.args.m s.args.top (inside d)), some_lower c))
 
   loop-holds : lts.Need-loop-init (claims t) (descend_at t) descend.Post invariant-loop decreases-loop
   loop-holds c =
-      let s = first c.before.before.before.before.before.before in
-      (at_first, (λ h. absurd (omega (arith, h)), (beside_self s.args.top s.args.numbers.now (ends s), s.pre.1.1)))
-
-  -- ---- an entry
-
-  module _ (e : Entry) where
-    abbrev opener : Open
-    opener = opened (round e)
-
-    abbrev start : Start
-    start = first opener
-
-    abbrev k : ℕ
-    k = (round e).loop.k
-
-    abbrev inside : k < opener.open_at.result.many
-    inside = e.if2.taken
-
-    -- as a thing, and the number that is read for it
-    abbrev y : Thing
-    y = entry (over_tree start).shape opener.open_at.result.node k
-
-    abbrev number_read : ℕ
-    number_read = get_or start.args.entries.now (opener.open_at.result.first + k) 0
-
-    is_thing : thing opener.open_at.result.leaf number_read ≡ y
-    is_thing = is_entry (q start).walkable (can opener).opens k inside
-
-    abbrev Goes : ℕ → Kept → ℕ → Type 0
-    Goes steps known n = Going (places start) (over_tree start) (own start) (memory start) (wanted start) start.args.allowance start.args.m (cand start) (top opener) opener.open_at.result (from start) steps known n
-
-    abbrev known_at : Kept
-    known_at = kept_at (round e).loop.bound (round e).loop.places
-
-    -- the candidate with it, and how far its members are spread
-    abbrev came : List Member
-    came = next (can opener) k inside
-
-    abbrev wide : ℕ
-    wide = spread (boxes_of (take start.args.m came))
-
-    -- what is said of its columns: the leftmost of the highest and its level, its numbers and its sides
-    abbrev As : (ℕ → ℕ → List ℕ → Sides → Type 0) → Type 0
-    As P = P (next_top start.args.m (top opener)) (next_high start.args.m (top opener) start.args.high) (set start.args.numbers.now (top opener) number_read) (put (ends start) (top opener) (box_of (places start) (over_tree start).sides y))
-
-    small : opener.open_at.result.first + k < 65536
-    small = in_few (q start).walkable (can opener).opens k inside
-
-    in_entries : opener.open_at.result.first + k < length start.args.entries.now
-    in_entries = in_list (q start).walkable (can opener).opens k inside
-
-    read_at : Reads (q start).walkable opener.open_at.result.leaf number_read
-    read_at = reads (q start).walkable (can opener).opens k inside
-
-    -- one entry less is left
-    fewer : opener.open_at.result.many - (k + 1) < opener.open_at.result.many - k
-    fewer = omega (arith, inside)
+      let o : Open = c.before in
+      let d = first o in
+      let s = begin d in
+      let r = ready o in (
+        at_first (open_so d).near (open_so d).eight,
+        (beside_self s.args.top (names d) (ends d), (eight d, subst AllRanged (boxes_of_lem (levels_in s) (names d) (ends d) s.args.m) (boxes_ranged r.passes (wanted s) s.args.m (cand d) r.long r.fair))),
+      )
 
   add-here : lts.Need-overflow-add-here (claims t) (descend_at t) descend.Post invariant-loop decreases-loop
-  add-here c = omega (arith, small c.before)
+  add-here c =
+      let r = ready (opened (round c)) in
+      omega (arith, in_few r.passes r.opens (round c).loop.k c.before.if2.true)
 
   add-k : lts.Need-overflow-add-k (claims t) (descend_at t) descend.Post invariant-loop decreases-loop
   add-k c = search rules
 
   holds-at-requires : lts.Need-holds-at-requires (claims t) (descend_at t) descend.Post invariant-loop decreases-loop
   holds-at-requires c κs =
-      let e : Entry = c.before in
-      let s = start e in
-      ((in_entries e, kind_small s.args.kinds s.args.m (can (opener e)).opens (q s).few), (λ u. ((read_at e).place u).1.1, λ u. omega (arith, (read_at e).node u, (q s).walkable.counted.room.kits)))
+      let o = opened (round c) in
+      let s = begin (first o) in
+      let r = ready o in
+      let k = (round c).loop.k in
+      let e = reads r.passes r.opens k c.before.if2.true in
+      ((in_list r.passes r.opens k c.before.if2.true, kind_small s.args.kinds s.args.m r.opens s.pre.1.1.1.0), (λ u. (e.place u).1.1, λ u. omega (arith, e.node u, (meets r.passes).counted.room.kits)))
 
-  held : (c : Asked) → let e = asked c in let s = start e in c.holds_at.result ≡ holds (places s) (over_tree s) (get_or (wanted s) (top (opener e)) 0) (y e)
+  -- entry k of the run, as a thing
+  abbrev y : Entry → Thing
+  y c = entry (over_tree (begin (first (opened (round c))))).shape (opened (round c)).open_at.result.node (round c).loop.k
+
+  held : (c : Asked) → let o = opened (round (at c)) in let s = begin (first o) in c.holds_at.result ≡ holds (places s) (over_tree s) (get_or (wanted s) o.open_at.result.top 0) (y (at c))
   held c =
-      let e = asked c in
-      let s = start e in
-      c.holds_at.ensures s.args.x.now s.args.y.now ∙ ap₂ (λ (x : Thing) (kind : ℕ). holds (places s) (over_tree s) kind x) (is_thing e) (can (opener e)).opens.kind
+      let o = opened (round (at c)) in
+      let s = begin (first o) in
+      let r = ready o in
+      c.holds_at.ensures s.args.x.now s.args.y.now
+      ∙ ap₂ (λ (x : Thing) (kind : ℕ). holds (places s) (over_tree s) kind x) (is_entry r.passes r.opens (round (at c)).loop.k (at c).before.if2.true) r.opens.kind
 
   take-step-requires : lts.Need-take-step-requires (claims t) (descend_at t) descend.Post invariant-loop decreases-loop
   take-step-requires c κs = tt
 
+  ended : (c : Open) (to : Stand Best) → let s = begin (first c) in
+      Led (places s) (over_tree s) (wanted s) s.args.allowance s.args.m (cand (first c)) c.open_at.result.top (stand s.args.steps.now false (best_of s)) to →
+      Led (places s) (over_tree s) (wanted s) s.args.allowance s.args.m (called s) s.args.top (stand s.args.steps.now false (best_of s)) to
+  ended c to e =
+      let s = begin (first c) in
+      ends_so (first c) to (subst (λ (i : ℕ). Led (places s) (over_tree s) (wanted s) s.args.allowance s.args.m (cand (first c)) i (stand s.args.steps.now false (best_of s)) to) (top_so c) e)
+
   returns-2 : lts.Need-returns-2 (claims t) (descend_at t) descend.Post invariant-loop decreases-loop
   returns-2 c =
       let a : Asked = c.before.before.before.before in
-      let e = asked a in
-      (spends (can (opener e)) _ _ _ (round e).loop.inv.0 (inside e) (sym (held a) ∙ c.before.before.before.if3.true) (c.before.take_step.ensures.none (not-true _ c.if4.true)), (round e).loop.inv.1.1.1)
+      let l = round (at a) in
+      let o = opened l in
+      ended o _ (spends (ready o) _ _ l.loop.inv.0 (at a).before.if2.true (sym (held a) ∙ c.before.before.before.if3.true) (c.before.take_step.ensures.none (not-true _ c.if4.true)))
 
   mul-p : lts.Need-overflow-mul-p (claims t) (descend_at t) descend.Post invariant-loop decreases-loop
-  mul-p c = omega (arith, small (asked (stepped c)))
+  mul-p c =
+      let e : Entry = c.before.before.before.before.before in
+      let r = ready (opened (round e)) in
+      omega (arith, in_few r.passes r.opens (round e).loop.k e.before.if2.true)
 
   shared-slice-read-p : lts.Need-shared-slice-read-p (claims t) (descend_at t) descend.Post invariant-loop decreases-loop
-  shared-slice-read-p c = in_entries (asked (stepped c.before))
+  shared-slice-read-p c =
+      let e : Entry = c.before.before.before.before.before.before in
+      let r = ready (opened (round e)) in
+      in_list r.passes r.opens (round e).loop.k e.before.if2.true
 
   wide16-requires : lts.Need-wide16-requires (claims t) (descend_at t) descend.Post invariant-loop decreases-loop
   wide16-requires c κs = tt
 
   box-of-requires : lts.Need-box-of-requires (claims t) (descend_at t) descend.Post invariant-loop decreases-loop
   box-of-requires c κs =
-      let e = asked (stepped c.before.before) in
-      let s = start e in
-      let d : Reads (q s).walkable (opener e).open_at.result.leaf c.wide16.result = subst (Reads (q s).walkable (opener e).open_at.result.leaf) (sym c.wide16.ensures) (read_at e) in
-      let room : Room s.args.nodes s.args.listed (lengths (over_tree s)) = (q s).walkable.counted.room in
-      (λ u. ((d.place u).0, (d.place u).1.0), λ u. let n = d.node u in (omega (arith, room.x_lo), (omega (arith, room.x_hi), (omega (arith, room.y_lo), omega (arith, room.y_hi)))))
+      let e : Entry = c.before.before.before.before.before.before.before in
+      let o = opened (round e) in
+      let s = begin (first o) in
+      let r = ready o in
+      let d : Reads r.passes o.open_at.result.leaf c.wide16.result = subst (Reads r.passes o.open_at.result.leaf) (sym c.wide16.ensures) (reads r.passes r.opens (round e).loop.k e.before.if2.true) in
+      let q : Room s.args.nodes s.args.listed (lengths (over_tree s)) = (meets r.passes).counted.room in
+      (λ u. ((d.place u).0, (d.place u).1.0), λ u. let n = d.node u in (omega (arith, q.x_lo), (omega (arith, q.x_hi), (omega (arith, q.y_lo), omega (arith, q.y_hi)))))
 
   -- the box of the entry
-  is_box : (c : Boxed) → let e = asked (stepped (boxed c)) in let s = start e in c.box_of.result ≡ box_of (places s) (over_tree s).sides (y e)
+  is_box : (c : Boxed) → let e : Entry = at (shown c) in let s = begin (first (opened (round e))) in c.box_of.result ≡ box_of (places s) (over_tree s).sides (y e)
   is_box c =
-      let e = asked (stepped (boxed c)) in
-      let s = start e in
-      c.box_of.ensures s.args.kit.now ∙ ap (box_of (places s) (over_tree s).sides) (ap (thing (opener e).open_at.result.leaf) c.before.wide16.ensures ∙ is_thing e)
+      let e : Entry = at (shown c) in
+      let o = opened (round e) in
+      let s = begin (first o) in
+      let r = ready o in
+      c.box_of.ensures s.args.kit.now ∙ ap (box_of (places s) (over_tree s).sides) (ap (thing o.open_at.result.leaf) c.before.wide16.ensures ∙ is_entry r.passes r.opens (round e).loop.k e.before.if2.taken)
+
+  -- the sides in the columns, of which that of the replaced member may be another's
+  abbrev sides_at_lem : Loop → Sides
+  sides_at_lem l = sides l.loop.wests l.loop.easts l.loop.souths l.loop.norths
 
   is-near-requires : lts.Need-is-near-requires (claims t) (descend_at t) descend.Post invariant-loop decreases-loop
   is-near-requires c κs =
-      let b : Boxed = c.before.before in
-      let e = asked (stepped (boxed b)) in
-      let s = start e in
-      let w = (q s).walkable in
-      ((few s, lead_inside (q s)), ((in_range (q s), subst Ranged (sym (is_box b)) (w.ranged 0 (y e) (real w (can (opener e)).opens (k e) (inside e)))), (stayed (opener e), (round e).loop.inv.1.0)))
+      let b : Boxed = c.before.before.before.before.before in
+      let e : Entry = at (shown b) in
+      let d = first (opened (round e)) in
+      let r = ready (opened (round e)) in
+      ((few d, inside d), ((round e).loop.inv.1.1.1, subst Ranged (sym (is_box b)) (ranged r.passes (y e) (real r.passes r.opens (round e).loop.k e.before.if2.taken))))
 
-  -- ---- the candidate of the entry was tested
+  abbrev best_at_lem : Loop → Best
+  best_at_lem l = best_at l.loop.known l.loop.squared l.loop.places
 
-  module _ (c : Tested) where
-    near_is : c.is-near.result ≡ within (round (at c)).loop.bound (wide (at c))
-    near_is =
-        let e = at c in
-        let s = start e in
-        c.is-near.ensures.0
-        ∙ ap (λ (b : Box). within (round e).loop.bound (spread (set (take s.args.m (boxes_at (ends s))) (top (opener e)) b))) (is_box (tested c))
-        ∙ ap (within (round e).loop.bound) (sym (wide_set (q s) (opener e).open_at.ensures (k e) (inside e)))
+  -- how far the entry is from the others
+  abbrev far : Measured → ℕ
+  far c =
+      let e : Entry = at (shown (boxed c)) in
+      let o = opened (round e) in
+      let s = begin (first o) in
+      farthest (box_of (places s) (over_tree s).sides (y e)) (without o.open_at.result.top (boxes_of (take s.args.m (cand (first o)))))
 
-    -- the entry holds the kind, and a step was taken
-    holding : let e = at c in let s = start e in holds (places s) (over_tree s) (get_or (wanted s) (top (opener e)) 0) (y e) ≡ true
-    holding = sym (held (stepped (boxed (tested c)))) ∙ (boxed (tested c)).before.before.before.if3.taken
+  near_is : (c : Measured) → let l = round (at (shown (boxed c))) in c.is-near.result ≡ near l.loop.known l.loop.squared (far c)
+  near_is c =
+      let e : Entry = at (shown (boxed c)) in
+      let o = opened (round e) in
+      let d = first o in
+      let s = begin d in
+      let l = round e in
+      let others : without s.args.top (take s.args.m (boxes_at (sides_at_lem l))) ≡ without s.args.top (boxes_of (take s.args.m (cand d))) = others_same s.args.m s.args.top l.loop.inv.1.0 l.loop.inv.1.1.0 (eight d) (few d) (inside d) ∙ ap (without s.args.top) (sym (boxes_of_lem (levels_in s) (names d) (ends d) s.args.m)) in
+      c.is-near.ensures
+      ∙ ap₂ (λ (b : Box) (q : List Box). near l.loop.known l.loop.squared (farthest b q)) (is_box (boxed c)) others
+      ∙ ap (λ (i : ℕ). near l.loop.known l.loop.squared (farthest (box_of (places s) (over_tree s).sides (y e)) (without i (boxes_of (take s.args.m (cand d)))))) (sym (top_so o))
 
-    abbrev steps_now : ℕ
-    steps_now = (boxed (tested c)).before.take_step.last.1.0
+  -- the entry holds the kind, and a step was taken
+  holding : (c : Measured) → let e = at (shown (boxed c)) in let o = opened (round e) in let s = begin (first o) in holds (places s) (over_tree s) (get_or (wanted s) o.open_at.result.top 0) (y e) ≡ true
+  holding c = sym (held (shown (boxed c))) ∙ (boxed c).before.before.before.before.before.before.if3.true
 
-    counted : let e = at c in ((round e).loop.steps < (start e).args.allowance) × (steps_now ≡ (round e).loop.steps + 1)
-    counted = (boxed (tested c)).before.take_step.ensures.some (not-false _ (boxed (tested c)).if4.left)
+  abbrev steps_now : Measured → ℕ
+  steps_now c = (boxed c).before.before.before.before.take_step.new.1.0
 
-  near_now : (c : Come) → let e = at c.before in wide e ≤ (round e).loop.bound
-  near_now c = within_so _ _ (sym (near_is c.before) ∙ c.if5.true)
+  counted : (c : Measured) → let l = round (at (shown (boxed c))) in (l.loop.steps < (begin (first (opened l))).args.allowance) × (steps_now c ≡ l.loop.steps + 1)
+  counted c = (boxed c).before.before.before.before.take_step.ensures.some (not-false _ (boxed c).before.before.before.if4.false)
 
-  -- ---- it is put into the columns, and walked in its turn
+  -- ---- the candidate of the entry
 
-  put-member-requires : lts.Need-put-member-requires (claims t) (descend_at t) descend.Post invariant-loop decreases-loop
-  put-member-requires c κs = let d : Come = c.before.before.before.before.before in lead_small (q (start (at d.before)))
+  abbrev box_read : Come → Box
+  box_read c = (boxed (measured c)).box_of.result
 
-  module _ (c : Put) where
-    abbrev of : Tested
-    of = (come c).before
+  abbrev number_read : Come → ℕ
+  number_read c = get_or (begin (first (opener c))).args.entries.now ((opener c).open_at.result.first + (round (entered c)).loop.k) 0
 
-    abbrev sides_at_lem : Sides
-    sides_at_lem = let l = (round (at of)).loop in sides l.wests l.easts l.souths l.norths
+  lower_entry : (c : Come) → let d = first (opener c) in level (over_tree (begin d)).shape (member (things d) (opener c).open_at.result.top) ≡ suc (level (over_tree (begin d)).shape (y (entered c)))
+  lower_entry c = lower (ready (opener c)) (round (entered c)).loop.k (entered c).before.if2.true
 
-    abbrev names_put : List ℕ
-    names_put = c.put-member.new.0
+  abbrev came : Come → List Member
+  came c = next (ready (opener c)) (round (entered c)).loop.k (entered c).before.if2.true
 
-    abbrev ends_put : Sides
-    ends_put = let last = c.put-member.new.1 in sides last.0 last.1.0 last.1.1.0 last.1.1.1.0
+  -- the levels, with the place of the member as it was opened
+  levels_open : (o : Open) → let s = begin (first o) in map (λ (a : Member). a.level) (take s.args.m (cand (first o))) ≡ take s.args.m (levels_at s.args.m o.open_at.result.top s.args.high)
+  levels_open o =
+      let d = first o in
+      let s = begin d in
+      levels_down s.pre.1.1.0 s.args.kinds s.args.m (few d) s.args.top s.args.high (names d) (ends d) (open_so d) o.open_at.result o.open_at.ensures
 
-    same : Beside (top (opener (at of))) (round (at of)).loop.names sides_at_lem (start (at of)).args.numbers.now (ends (start (at of)))
-    same = (round (at of)).loop.inv.1.1.0
+  -- its columns
+  came_so : (c : Come) → let o = opener c in let d = first o in let s = begin d in let l = round (entered c) in
+      members_at (levels_at s.args.m (turned o).before.next-top.result (turned o).next-high.result) (set l.loop.names s.args.top (number_read c)) (put (sides_at_lem l) s.args.top (box_read c)) ≡ came c
+  came_so c =
+      let o = opener c in
+      let d = first o in
+      let s = begin d in
+      let l = round (entered c) in
+      let b = box_read c in
+      let low : s.args.high - 1 ≡ level (over_tree s).shape (y (entered c)) = lower_is (ready o) (few d) s.args.high (levels_open o) (y (entered c)) (lower_entry c) in
+      let same = l.loop.inv.1.0 in
+      ap₂ (λ (i v : ℕ). members_at (levels_at s.args.m i v) (set l.loop.names s.args.top (number_read c)) (put (sides_at_lem l) s.args.top b)) (next_so o) (lower_so o)
+      ∙ ap (λ (q : List ℕ). members_at q (set l.loop.names s.args.top (number_read c)) (put (sides_at_lem l) s.args.top b)) (sym (levels_next s.args.m s.args.top s.args.high (few d) (inside d)))
+      ∙ ap₂ (λ (q : List ℕ) (e : Sides). members_at (set (levels_in s) s.args.top (s.args.high - 1)) q e) (same.number (number_read c)) (same.box b)
+      ∙ members_set (levels_in s) (names d) (ends d) (levels_eight s.args.m s.args.top s.args.high (few d)) (eight d) s.args.top (top_few d) (s.args.high - 1) (number_read c) b
+      ∙ ap₂ (λ (i : ℕ) (a : Member). set (cand d) i a) (sym (top_so o)) (member_is (ready o) l.loop.k (entered c).before.if2.true (s.args.high - 1) (number_read c) b low refl (is_box (boxed (measured c))))
 
-    names_so : names_put ≡ set (start (at of)).args.numbers.now (top (opener (at of))) (number_read (at of))
-    names_so = c.put-member.ensures.0 ∙ same.number (number_read (at of))
+  -- it is no group
+  some_left : (c : Come) → let o = opener c in let s = begin (first o) in 0 < next_high s.args.m o.open_at.result.top s.args.high
+  some_left c =
+      let o = opener c in
+      let s = begin (first o) in
+      subst (λ (i : ℕ). 0 < next_high s.args.m i s.args.high) (sym (top_so o)) (subst (λ (v : ℕ). 0 < v) (lower_so o) (some_lower o))
 
-    ends_so : ends_put ≡ put (ends (start (at of))) (top (opener (at of))) (box_of (places (start (at of))) (over_tree (start (at of))).sides (y (at of)))
-    ends_so = c.put-member.ensures.1 ∙ same.box (tested of).box_of.result ∙ ap (put (ends (start (at of))) (top (opener (at of)))) (is_box (tested of))
+  abbrev below : Come → List Thing
+  below c = set (things (first (opener c))) (opener c).open_at.result.top (y (entered c))
 
-    beside : Beside (top (opener (at of))) names_put ends_put (start (at of)).args.numbers.now (ends (start (at of)))
-    beside =
-        let e = at of in
-        let s = start e in
-        let i = top (opener e) in
-        subst (λ (n : List ℕ). Beside i n ends_put s.args.numbers.now (ends s)) (sym c.put-member.ensures.0)
-        (subst (λ (b : Sides). Beside i (set (round e).loop.names i (number_read e)) b s.args.numbers.now (ends s)) (sym c.put-member.ensures.1)
-        (beside_put i same (number_read e) (tested of).box_of.result))
+  open_next : (c : Come) → group_of (over_tree (begin (first (opener c)))).shape (below c) ≡ none
+  open_next c = let o = opener c in more_below (ready o) (few (first o)) (begin (first o)).args.high (levels_open o) (y (entered c)) (lower_entry c) (some_left c)
 
-    abbrev known_then : Stand Kept
-    known_then = stand (steps_now of) false (known_at (at of))
+  top_next : (c : Come) → (turned (opener c)).before.next-top.result ≡ topmost (over_tree (begin (first (opener c)))).shape (below c)
+  top_next c =
+      let o = opener c in
+      let s = begin (first o) in
+      next_so o ∙ ap (next_top s.args.m) (sym (top_so o)) ∙ sym (top_below (ready o) (few (first o)) s.args.high (levels_open o) (y (entered c)) (lower_entry c) (some_left c))
 
-  -- the columns that are lent are those of the candidate
-  into : (c : Put) (P : ℕ → ℕ → List ℕ → Sides → Type 0) → As (at (of c)) P → let o = opener (at (of c)) in P (next_top_lem o) (next_high_lem o) (names_put c) (ends_put c)
-  into c P h = let o = opener (at (of c)) in moved P (next_so o) (lower_so o) (sym (names_so c)) (sym (ends_so c)) h
+  near_now : (c : Come) → let l = round (entered c) in c.before.before.before.is-near.result ≡ true → Near (best_at_lem l) (far (measured c))
+  near_now c h = near_so (best_at_lem (round (entered c))) (far (measured c)) (sym (near_is (measured c)) ∙ h)
 
-  descend-requires : lts.Need-descend-requires (claims t) (descend_at t) descend.Post invariant-loop decreases-loop
-  descend-requires c κs =
-      let p : Put = c.before.before.before.before.before.before.before.before in
-      let e = at (of p) in
-      let o = opener e in
-      let s = start e in
-      let opens : Opens s (next_top_lem o) (next_high_lem o) (names_put p) (ends_put p) (round e).loop.bound = into p (λ i v n b. Opens s i v n b (round e).loop.bound) (next_in (q s) o.open_at.ensures (k e) (inside e) (more o) (near_now (come p))) in
-      let less : level_sum s.args.m (next_top_lem o) (next_high_lem o) < t = into p (λ i v n b. level_sum s.args.m i v < t) (omega (arith, sum_less (q s), s.pre.0)) in
-      (less, (opens, (round e).loop.inv.1.1.1))
+  -- it is opened in its turn
+  next_opened : (c : Come) → let o = opener c in let s = begin (first o) in Opened (places s) (over_tree s) (wanted s) s.args.m (came c) (turned o).before.next-top.result (best_at_lem (round (entered c)))
+  next_opened c =
+      let o = opener c in
+      let s = begin (first o) in
+      let l = round (entered c) in
+      let r = ready o in
+      let b = (entered c).before.if2.true in
+      let things-so = next_things r l.loop.k b in
+      record {
+        fair = next_fair r l.loop.k b;
+        is = top_next c ∙ ap (topmost (over_tree s).shape) (sym things-so);
+        whole = ap (group_of (over_tree s).shape) things-so ∙ open_next c;
+        near = comes r l.loop.k b (best_at_lem l) l.loop.inv.0.near (near_now c c.before.before.if5.true);
+        eight = l.loop.inv.0.eight;
+      }
 
-  module _ (c : Taken) where
-    abbrev after : Stand Kept
-    after = let last = c.descend.new.1.1.1.1.1.1.1.1.1.1.1.1.1.1.1.1.1.1.1.1.1.1.1.1 in stand last.0 c.descend.result (kept_at last.1.0 last.1.1.0)
+  -- and all that comes of it was taken
+  abbrev LedNext : Come → Stand Best → Type 0
+  LedNext c v =
+      let o = opener c in
+      let s = begin (first o) in
+      Led (places s) (over_tree s) (wanted s) s.args.allowance s.args.m (came c) (turned o).before.next-top.result (stand (steps_now (measured c)) false (best_at_lem (round (entered c)))) v
 
-    abbrev tried : Tested
-    tried = of (putter c)
+  led_next : (c : Come) (v : Stand Best) → LedNext c v → let o = opener c in let s = begin (first o) in
+      Led (places s) (over_tree s) (wanted s) s.args.allowance s.args.m (came c) (topmost (over_tree s).shape (below c)) (stand (steps_now (measured c)) false (best_at_lem (round (entered c)))) v
+  led_next c v e =
+      let s = begin (first (opener c)) in
+      subst (λ (i : ℕ). Led (places s) (over_tree s) (wanted s) s.args.allowance s.args.m (came c) i (stand (steps_now (measured c)) false (best_at_lem (round (entered c)))) v) (top_next c) e
 
-    abbrev met : Entry
-    met = at tried
+  stopped : (c : Come) (v : Stand Best) → LedNext c v → v.spent ≡ true → let s = begin (first (opener c)) in Led (places s) (over_tree s) (wanted s) s.args.allowance s.args.m (called s) s.args.top (stand s.args.steps.now false (best_of s)) v
+  stopped c v e f =
+      let m = measured c in
+      ended (opener c) v (stops (ready (opener c)) _ _ (round (entered c)).loop.inv.0 (entered c).before.if2.true (holding m) (counted m) (near_now c c.before.before.if5.true) (open_next c) (led_next c v e) f)
 
-    more_below : group_of (over_tree (start met)).shape (set (things (start met)) (top (opener met)) (y met)) ≡ none
-    more_below = next_more (q (start met)) (opener met).open_at.ensures (k met) (inside met) (more (opener met))
+  abbrev Goes : Come → Stand Best → Type 0
+  Goes c v =
+      let o = opener c in
+      let s = begin (first o) in
+      Going (places s) (over_tree s) (wanted s) s.args.allowance s.args.m (cand (first o)) o.open_at.result (stand s.args.steps.now false (best_of s)) v.steps v.known ((round (entered c)).loop.k + 1)
 
-    abbrev Below : ℕ → ℕ → List ℕ → Sides → Type 0
-    Below i v n b = Leads (start met) (columns (start met) i v n b) i (known_then (putter c)) after
+  went_on : (c : Come) (v : Stand Best) → LedNext c v → v.spent ≡ false → Goes c v
+  went_on c v e f =
+      let m = measured c in
+      goes_on (ready (opener c)) _ _ (round (entered c)).loop.inv.0 (entered c).before.if2.true (holding m) (counted m) (near_now c c.before.before.if5.true) (open_next c) (led_next c v e) f
 
-    led_below : Leads (start met) (came met) (topmost (over_tree (start met)).shape (set (things (start met)) (top (opener met)) (y met))) (known_then (putter c)) after
-    led_below = next_led (q (start met)) (opener met).open_at.ensures (k met) (inside met) (more (opener met)) (into (putter c) (λ i v n b. Below i v n b → As met Below) (λ h. h) c.descend.ensures.0)
+  -- one entry less is left
+  fewer : (e : Entry) → let o = opened (round e) in o.open_at.result.many - ((round e).loop.k + 1) < o.open_at.result.many - (round e).loop.k
+  fewer e = omega (arith, e.before.if2.taken)
+
+  -- ---- where groups come of it: its columns are put in
+
+  abbrev come : Put → Come
+  come c = c.before.before.before.before.before.before.before.before.before.before.before.before.before.before.before
+
+  abbrev top_of : Come → ℕ
+  top_of c = (begin (first (opener c))).args.top
+
+  put16-requires-2 : lts.Need-put16-requires-2 (claims t) (descend_at t) descend.Post invariant-loop decreases-loop
+  put16-requires-2 c κs = let d : Come = c.before.before in top_few (first (opener d))
+
+  put32-requires-5 : lts.Need-put32-requires-5 (claims t) (descend_at t) descend.Post invariant-loop decreases-loop
+  put32-requires-5 c κs = let d : Come = c.before.before.before.before.before in top_few (first (opener d))
+
+  put32-requires-6 : lts.Need-put32-requires-6 (claims t) (descend_at t) descend.Post invariant-loop decreases-loop
+  put32-requires-6 c κs = let d : Come = c.before.before.before.before.before.before.before.before in top_few (first (opener d))
+
+  put32-requires-7 : lts.Need-put32-requires-7 (claims t) (descend_at t) descend.Post invariant-loop decreases-loop
+  put32-requires-7 c κs = let d : Come = c.before.before.before.before.before.before.before.before.before.before.before in top_few (first (opener d))
+
+  put32-requires-8 : lts.Need-put32-requires-8 (claims t) (descend_at t) descend.Post invariant-loop decreases-loop
+  put32-requires-8 c κs = let d : Come = c.before.before.before.before.before.before.before.before.before.before.before.before.before.before in top_few (first (opener d))
+
+  abbrev names_put : Put → List ℕ
+  names_put c = c.before.before.before.before.before.before.before.before.before.before.before.before.put162.new.0
+
+  abbrev ends_put : Put → Sides
+  ends_put c = sides c.before.before.before.before.before.before.before.before.before.put325.new.0 c.before.before.before.before.before.before.put326.new.0 c.before.before.before.put327.new.0 c.put328.new.0
+
+  names_put_so : (c : Put) → names_put c ≡ set (round (entered (come c))).loop.names (top_of (come c)) (number_read (come c))
+  names_put_so c = c.before.before.before.before.before.before.before.before.before.before.before.before.put162.ensures
+
+  ends_put_so : (c : Put) → ends_put c ≡ put (sides_at_lem (round (entered (come c)))) (top_of (come c)) (box_read (come c))
+  ends_put_so c =
+      let d = come c in
+      let b = box_read d in
+      let e = sides_at_lem (round (entered d)) in
+      let x = c.before.before.before.before.before.before.before.struct-told2.given in
+      let y = c.before.struct-told4.given in
+      ap₂ (λ (u v : List ℤ). sides u v (ends_put c).y_lo (ends_put c).y_hi) c.before.before.before.before.before.before.before.before.before.put325.ensures c.before.before.before.before.before.before.put326.ensures
+      ∙ ap₂ (λ (u v : List ℤ). sides (set e.x_lo (top_of d) (passed b.x.lo)) (set e.x_hi (top_of d) (passed b.x.hi)) u v) c.before.before.before.put327.ensures c.put328.ensures
+      ∙ put_told e (top_of d) b (to_z-of_z (fit b.x.lo x.0.1), (to_z-of_z (fit b.x.hi x.1.0.1), (to_z-of_z (fit b.y.lo y.0.1), to_z-of_z (fit b.y.hi y.1.0.1))))
+
+  -- no level is left once the next is replaced
+  leaf_next : (c : Put) → let o = opener (come c) in ((turned o).before.next-top.result + 1 ≡ (begin (first o)).args.m) × ((turned o).next-high.result ≡ 1)
+  leaf_next c =
+      let d = come c in
+      let o = opener d in
+      let s = begin (first o) in
+      let deep : Deep = (round (entered d)).before in
+      high_last s.args.m (turned o).before.next-top.result (turned o).next-high.result (omega (arith, next_so o, top_in s.args.m s.args.top (inside (first o)))) (some_lower o) (sym deep.next-high2.ensures ∙ c.before.before.before.before.before.before.before.before.before.before.before.before.before.before.if6.true)
+
+  put_so : (c : Put) → let o = opener (come c) in members_at (levels_at (begin (first o)).args.m (turned o).before.next-top.result 1) (names_put c) (ends_put c) ≡ came (come c)
+  put_so c =
+      let d = come c in
+      let o = opener d in
+      let s = begin (first o) in
+      ap (λ (v : ℕ). members_at (levels_at s.args.m (turned o).before.next-top.result v) (names_put c) (ends_put c)) (sym (leaf_next c).1)
+      ∙ ap₂ (members_at (levels_at s.args.m (turned o).before.next-top.result (turned o).next-high.result)) (names_put_so c) (ends_put_so c)
+      ∙ came_so d
+
+  -- what the loop keeps of the columns
+  abbrev Kept : Come → List ℕ → Sides → Type 0
+  Kept c numbers b =
+      let d = first (opener c) in
+      Beside (top_of c) numbers b (names d) (ends d) × (Eight numbers b × AllRanged (take (begin d).args.m (boxes_at b)))
+
+  kept_put : (c : Put) → Kept (come c) (names_put c) (ends_put c)
+  kept_put c =
+      let d = come c in
+      let o = opener d in
+      let s = begin (first o) in
+      let l = round (entered d) in
+      let r = ready o in
+      let b = (entered d).before.if2.taken in
+      let new = set l.loop.names (top_of d) (number_read d) in
+      let box = put (sides_at_lem l) (top_of d) (box_read d) in
+      let ranged-next = boxes_ranged r.passes (wanted s) s.args.m (came d) (next_long r l.loop.k b) (next_fair r l.loop.k b) in
+      let lv = levels_at s.args.m (turned o).before.next-top.result (turned o).next-high.result in
+      subst (λ (q : List ℕ). Kept d q (ends_put c)) (sym (names_put_so c))
+      (subst (λ (q : Sides). Kept d new q) (sym (ends_put_so c))
+      (beside_put (top_of d) l.loop.inv.1.0 (number_read d) (box_read d), (eight_put l.loop.names (sides_at_lem l) l.loop.inv.1.1.0 (top_of d) (number_read d) (box_read d), subst AllRanged (ap (λ (q : List Member). boxes_of (take s.args.m q)) (sym (came_so d)) ∙ boxes_of_lem lv new box s.args.m) ranged-next)))
+
+  take-groups-requires-2 : lts.Need-take-groups-requires-2 (claims t) (descend_at t) descend.Post invariant-loop decreases-loop
+  take-groups-requires-2 c κs =
+      let p : Put = c.before.before.before.before.before.before.before.before.before in
+      let d = come p in
+      let o = opener d in
+      let s = begin (first o) in
+      (s.pre.1.1.0, ((s.pre.1.1.1.0, (leaf_next p).0), (subst (λ (q : List Member). Opened (places s) (over_tree s) (wanted s) s.args.m q (turned o).before.next-top.result (best_at_lem (round (entered d)))) (sym (put_so p)) (next_opened d), (kept_put p).1.0.number)))
+
+  abbrev putter : Grouped → Put
+  putter c = c.before.before.before.before.before.before.before.before.before.before
+
+  -- where the walk stands after them
+  abbrev after_groups : Grouped → Stand Best
+  after_groups c =
+      let last = c.take-groups2.new.1.1.1.1.1.1.1.1.1.1.1.1.1.1.1.1.1.1.1.1.1.1.1 in
+      stand last.0 c.take-groups2.result (best_at last.1.0 last.1.1.0 last.1.1.1.0)
+
+  led_groups : (c : Grouped) → LedNext (come (putter c)) (after_groups c)
+  led_groups c =
+      let d = come (putter c) in
+      let o = opener d in
+      let s = begin (first o) in
+      subst (λ (q : List Member). Led (places s) (over_tree s) (wanted s) s.args.allowance s.args.m q (turned o).before.next-top.result (stand (steps_now (measured d)) false (best_at_lem (round (entered d)))) (after_groups c)) (put_so (putter c)) c.take-groups2.ensures
 
   returns-3 : lts.Need-returns-3 (claims t) (descend_at t) descend.Post invariant-loop decreases-loop
   returns-3 c =
-      let w : Taken = c.before in
-      let e = met w in
-      let s = start e in
-      let to = after w in (
-        subst (λ (u : Bool). Leads s (cand s) s.args.top (from s) (stand to.steps u to.known)) c.if6.true
-            (stops (can (opener e)) _ _ _ (round e).loop.inv.0 (inside e) (holding (tried w)) (counted (tried w)) (near_now (come (putter w))) (more_below w) (led_below w) c.if6.true),
-        w.descend.ensures.1,
-      )
+      let g : Grouped = c.before in
+      let d = come (putter g) in
+      let s = begin (first (opener d)) in
+      let last = g.take-groups2.new.1.1.1.1.1.1.1.1.1.1.1.1.1.1.1.1.1.1.1.1.1.1.1 in
+      subst (λ (w : Bool). Led (places s) (over_tree s) (wanted s) s.args.allowance s.args.m (called s) s.args.top (stand s.args.steps.now false (best_of s)) (stand last.0 w (best_at last.1.0 last.1.1.0 last.1.1.1.0))) c.if7.true
+      (stopped d (after_groups g) (led_groups g) c.if7.true)
 
   loop-less : lts.Need-loop-smaller (claims t) (descend_at t) descend.Post invariant-loop decreases-loop
-  loop-less c = fewer (met c.before)
+  loop-less c = let g : Grouped = c.before in fewer (entered (come (putter g)))
 
   loop-again : lts.Need-loop-preserved (claims t) (descend_at t) descend.Post invariant-loop decreases-loop
   loop-again c =
-      let w : Taken = c.before in
-      let e = met w in (
-        goes_on (can (opener e)) _ _ _ (round e).loop.inv.0 (inside e) (holding (tried w)) (counted (tried w)) (near_now (come (putter w))) (more_below w) (led_below w) c.if6.false,
-        ((tried w).is-near.ensures.1, (beside (putter w), w.descend.ensures.1)),
-      )
+      let g : Grouped = c.before in
+      (went_on (come (putter g)) (after_groups g) (led_groups g) c.if7.false, kept_put (putter g))
 
-  -- ---- a candidate that is dropped, and an entry that does not hold the kind
+  -- ---- any other is walked in its turn
+
+  abbrev comes_of : Sent → Come
+  comes_of c = c.before.before.before.before.before.before.before.before.before
+
+  sent_so : (c : Sent) → let d = comes_of c in let o = opener d in let s = begin (first o) in let l = round (entered d) in let b = box_read d in
+      members_at (levels_at s.args.m (turned o).before.next-top.result (turned o).next-high.result) (set l.loop.names s.args.top (number_read d))
+      (sides (set l.loop.wests s.args.top (passed b.x.lo)) (set l.loop.easts s.args.top (passed b.x.hi)) (set l.loop.souths s.args.top (passed b.y.lo)) (set l.loop.norths s.args.top (passed b.y.hi)))
+      ≡ came d
+  sent_so c =
+      let d = comes_of c in
+      let o = opener d in
+      let s = begin (first o) in
+      let l = round (entered d) in
+      let b = box_read d in
+      let x = c.before.before.struct-told6.given in
+      let y = c.struct-told8.given in
+      ap (members_at (levels_at s.args.m (turned o).before.next-top.result (turned o).next-high.result) (set l.loop.names s.args.top (number_read d))) (put_told (sides_at_lem l) s.args.top b (to_z-of_z (fit b.x.lo x.0.1), (to_z-of_z (fit b.x.hi x.1.0.1), (to_z-of_z (fit b.y.lo y.0.1), to_z-of_z (fit b.y.hi y.1.0.1)))))
+      ∙ came_so d
+
+  -- less is left of the levels
+  lower_next : (c : Come) → let o = opener c in let s = begin (first o) in (turned o).next-high.result * 8 + 8 - (turned o).before.next-top.result < s.args.high * 8 + 8 - s.args.top
+  lower_next c =
+      let o = opener c in
+      let s = begin (first o) in
+      go o (dec_lt (s.args.top + 1) s.args.m)
+    where
+      go : (o : Open) → let s = begin (first o) in Dec (s.args.top + 1 < s.args.m) → (turned o).next-high.result * 8 + 8 - (turned o).before.next-top.result < s.args.high * 8 + 8 - s.args.top
+      go o (yes h) =
+          let s = begin (first o) in
+          omega (arith, next_so o, lower_so o, top_on s.args.m s.args.top h, high_on s.args.m s.args.top s.args.high h, top_few (first o))
+      go o (no h) =
+          let s = begin (first o) in
+          omega (arith, next_so o, lower_so o, top_back s.args.m s.args.top (omega (arith, h)), high_back s.args.m s.args.top s.args.high (omega (arith, h)), top_few (first o), high_so (first o))
+
+  descend-requires : lts.Need-descend-requires (claims t) (descend_at t) descend.Post invariant-loop decreases-loop
+  descend-requires c κs =
+      let d = comes_of c in
+      let o = opener d in
+      let s = begin (first o) in
+      let falls : (turned o).next-high.result * 8 + 8 - (turned o).before.next-top.result < t = omega (arith, lower_next d, s.pre.0) in
+      (falls, (top_few (first o), (s.pre.1.1.0, (s.pre.1.1.1.0, subst (λ (q : List Member). Opened (places s) (over_tree s) (wanted s) s.args.m q (turned o).before.next-top.result (best_at_lem (round (entered d)))) (sym (sent_so c)) (next_opened d)))))
+
+  abbrev after : Taken → Stand Best
+  after c =
+      let last = c.descend.new.1.1.1.1.1.1.1.1.1.1.1.1.1.1.1.1.1.1.1.1.1.1.1.1.1.1.1.1.1.1 in
+      stand last.0 c.descend.result (best_at last.1.0 last.1.1.0 last.1.1.1.0)
+
+  led_below : (c : Taken) → LedNext (comes_of c.before) (after c)
+  led_below c =
+      let d = comes_of c.before in
+      let o = opener d in
+      let s = begin (first o) in
+      subst (λ (q : List Member). Led (places s) (over_tree s) (wanted s) s.args.allowance s.args.m q (turned o).before.next-top.result (stand (steps_now (measured d)) false (best_at_lem (round (entered d)))) (after c)) (sent_so c.before) c.descend.ensures
+
+  returns-4 : lts.Need-returns-4 (claims t) (descend_at t) descend.Post invariant-loop decreases-loop
+  returns-4 c =
+      let w : Taken = c.before in
+      let d = comes_of w.before in
+      let s = begin (first (opener d)) in
+      let last = w.descend.new.1.1.1.1.1.1.1.1.1.1.1.1.1.1.1.1.1.1.1.1.1.1.1.1.1.1.1.1.1.1 in
+      subst (λ (u : Bool). Led (places s) (over_tree s) (wanted s) s.args.allowance s.args.m (called s) s.args.top (stand s.args.steps.now false (best_of s)) (stand last.0 u (best_at last.1.0 last.1.1.0 last.1.1.1.0))) c.if8.true
+      (stopped d (after w) (led_below w) c.if8.true)
 
   loop-less-2 : lts.Need-loop-smaller-2 (claims t) (descend_at t) descend.Post invariant-loop decreases-loop
-  loop-less-2 c = fewer (at c.before)
+  loop-less-2 c = let w : Taken = c.before in fewer (entered (comes_of w.before))
 
   loop-again-2 : lts.Need-loop-preserved-2 (claims t) (descend_at t) descend.Post invariant-loop decreases-loop
   loop-again-2 c =
-      let d : Tested = c.before in
-      let e = at d in
-      (drops (can (opener e)) _ _ _ (round e).loop.inv.0 (inside e) (holding d) (counted d) refl (beyond_so _ _ (sym (near_is d) ∙ c.if5.false)), (d.is-near.ensures.1, (round e).loop.inv.1.1))
+      let w : Taken = c.before in
+      let d = comes_of w.before in
+      (went_on d (after w) (led_below w) c.if8.false, (round (entered d)).loop.inv.1)
+
+  -- ---- a candidate that is dropped, and an entry that does not hold the kind
 
   loop-less-3 : lts.Need-loop-smaller-3 (claims t) (descend_at t) descend.Post invariant-loop decreases-loop
-  loop-less-3 c = fewer (asked c.before)
+  loop-less-3 c = fewer (at (shown (boxed c.before)))
 
   loop-again-3 : lts.Need-loop-preserved-3 (claims t) (descend_at t) descend.Post invariant-loop decreases-loop
   loop-again-3 c =
-      let a : Asked = c.before in
-      let e = asked a in
-      (skips (can (opener e)) _ _ _ (round e).loop.inv.0 (inside e) (sym (held a) ∙ c.if3.false), (round e).loop.inv.1)
+      let d : Measured = c.before in
+      let e = at (shown (boxed d)) in
+      let l = round e in
+      let beyond = far_so (best_at_lem l) (far d) (sym (near_is d) ∙ c.if5.false) in
+      (drops (ready (opened l)) _ _ l.loop.inv.0 e.before.if2.taken (holding d) (counted d) beyond.0 beyond.1, l.loop.inv.1)
 
-  returns-4 : lts.Need-returns-4 (claims t) (descend_at t) descend.Post invariant-loop decreases-loop
-  returns-4 c = let l : Loop = c.before.before in (over (can (opened l)) _ _ _ l.loop.invariant.0 c.if2.false, l.loop.invariant.1.1.1)
+  loop-less-4 : lts.Need-loop-smaller-4 (claims t) (descend_at t) descend.Post invariant-loop decreases-loop
+  loop-less-4 c = search rules
+
+  loop-again-4 : lts.Need-loop-preserved-4 (claims t) (descend_at t) descend.Post invariant-loop decreases-loop
+  loop-again-4 c =
+      let a : Asked = c.before in
+      let l = round (at a) in
+      (skips (ready (opened l)) _ _ l.loop.inv.0 (at a).before.if2.true (sym (held a) ∙ c.if3.false), l.loop.inv.1)
+
+  returns-5 : lts.Need-returns-5 (claims t) (descend_at t) descend.Post invariant-loop decreases-loop
+  returns-5 c =
+      let l : Loop = c.before.before in
+      let o = opened l in
+      ended o _ (over (ready o) _ _ l.loop.invariant.0 c.if2.false)
 
 pub +descend-spec : {M : Type 1} → statement M
 +descend-spec =
@@ -559,13 +870,19 @@ pub +descend-spec : {M : Type 1} → statement M
     descend.Post
     invariant-loop
     decreases-loop
+    (put16-requires t)
+    (put32-requires t)
+    (put32-requires-2 t)
+    (put32-requires-3 t)
+    (put32-requires-4 t)
     (next-top-requires t)
     (next-high-requires t)
     (take-groups-requires t)
     (returns t)
     (mul-open-at t)
-    (element-copy-out-open-at t)
+    (array-read-open-at t)
     (open-at-requires t)
+    (next-high-requires-2 t)
     (loop-holds t)
     (add-here t)
     (add-k t)
@@ -577,13 +894,21 @@ pub +descend-spec : {M : Type 1} → statement M
     (wide16-requires t)
     (box-of-requires t)
     (is-near-requires t)
-    (put-member-requires t)
-    (descend-requires t)
+    (put16-requires-2 t)
+    (put32-requires-5 t)
+    (put32-requires-6 t)
+    (put32-requires-7 t)
+    (put32-requires-8 t)
+    (take-groups-requires-2 t)
     (returns-3 t)
     (loop-less t)
     (loop-again t)
+    (descend-requires t)
+    (returns-4 t)
     (loop-less-2 t)
     (loop-again-2 t)
     (loop-less-3 t)
     (loop-again-3 t)
-    (returns-4 t)
+    (loop-less-4 t)
+    (loop-again-4 t)
+    (returns-5 t)

@@ -4,35 +4,26 @@ use mathlib.Core.Path.{◌≡◌, refl}
 use Prim.Native.Nat.{ℕ, ◌-◌, ◌≤◌, ◌<◌}
 use native.Mathlib.Omega.{arith}
 use lib.Bits.{bit_or}
+use lib.ListN.{length}
 use mir.Facts.{to_z-of_z}
 use borrow.Author.Rules.{rules}
 use Rattle.plane.specs.Plane.{join_boxes}
-use Rattle.plane.specs.declared.Box.{Box}
 use Rattle.plane.proofs.SignedLaws.{fit}
 use Rattle.table.specs.Table as table
-use Rattle.table.specs.Table.{Table, places}
+use Rattle.table.specs.Table.{Table}
 use Rattle.tree.specs.Tree.{Shape, Sides, box_of, kit_of}
 use Rattle.tree.specs.Lent.{shape, sides}
 use Rattle.tree.proofs.NodeLaws.{wider}
-use Rattle.fill.specs.Downward.{Follows}
-use Rattle.fill.proofs.FillLaws.{fill_none, fill_as, fill_done}
-use Rattle.fill.proofs.FollowLaws.{follower, follower_follows, one_follows}
-use Rattle.fill.proofs.ValueLaws.{Read, leaf_run, node_run, run_due, Valued, value_more, box_filled, boxes_filled}
+use Rattle.levels.specs.Levels.{nodes}
+use Rattle.levels.proofs.LevelLaws.{nodes_few}
+use Rattle.fill.proofs.FillLaws.{fill_none, fill_done}
+use Rattle.fill.proofs.ValueLaws.{Read, leaf_run, node_run, run_due, Valued, value_more, box_filled}
 use Rattle.fill.proofs.fill_values.Statement.{statement}
 use Rattle.fill.proofs.fill_values.Tie as tie
 
--- the boxes and kit words that follow the runs
-abbrev boxes : Table → Shape → ℕ → Box
-boxes t s = follower join_boxes (table.box_of t) s
-
-abbrev words : Table → Shape → ℕ → ℕ
-words t s = follower bit_or (table.kit_of t) s
-
 abbrev invariant-loop : tie.invariant-loop
 invariant-loop nodes x y kit level start count entries x-lo₀ x-hi₀ y-lo₀ y-hi₀ kits₀ m₀ x_lo x_hi y_lo y_hi kits m =
-    let t = table.table x y kit in
-    let s = shape nodes 0 level start count entries in
-    Valued (boxes t s) (words t s) nodes (sides x-lo₀ x-hi₀ y-lo₀ y-hi₀) (sides x_lo x_hi y_lo y_hi) kits₀ kits m
+    Valued (table.table x y kit) nodes (sides x-lo₀ x-hi₀ y-lo₀ y-hi₀) (sides x_lo x_hi y_lo y_hi) kits₀ kits m
 
 abbrev decreases-loop : tie.decreases-loop
 decreases-loop nodes x y kit level start count entries x-lo₀ x-hi₀ y-lo₀ y-hi₀ kits₀ m₀ x_lo x_hi y_lo y_hi kits m = m
@@ -44,7 +35,7 @@ abbrev table_at : Start → Table
 table_at s = table.table s.args.x.now s.args.y.now s.args.kit.now
 
 abbrev shape_at : Start → Shape
-shape_at s = shape s.args.nodes 0 s.args.level.now s.args.start.now s.args.count.now s.args.entries.now
+shape_at s = shape 0 0 s.args.level.now s.args.start.now s.args.count.now s.args.entries.now
 
 abbrev begin : tie.In-loop invariant-loop decreases-loop → Start
 begin c = c.before.before.before.before.before.before.before.before
@@ -56,8 +47,8 @@ sides_at c = let l = c.before.loop in sides l.x_lo l.x_hi l.y_lo l.y_hi
 abbrev at : tie.In-loop invariant-loop decreases-loop → ℕ
 at c = c.before.loop.m - 1
 
-is_node : (c : tie.In-loop invariant-loop decreases-loop) → let n = (begin c).args.nodes in (at c < n) × (n ≤ 2048)
-is_node c = (omega (arith, c.before.loop.invariant.within), (begin c).requires.0.columns.few)
+is_node : (c : tie.In-loop invariant-loop decreases-loop) → let n = nodes (length (begin c).args.x.now) in (at c < n) × (n ≤ 273)
+is_node c = let s = begin c in (omega (arith, s.pre.1.0.0, c.before.loop.invariant.within), nodes_few (length s.args.x.now) s.pre.0.few)
 
 loop-holds : tie.Need-loop-init invariant-loop decreases-loop
 loop-holds c =
@@ -68,19 +59,19 @@ sub-m : tie.Need-overflow-sub-m invariant-loop decreases-loop
 sub-m c = search rules
 
 shared-slice-read-leaf : tie.Need-shared-slice-read-leaf invariant-loop decreases-loop
-shared-slice-read-leaf c = omega (arith, is_node c.before, (begin c.before).requires.0.columns.level)
+shared-slice-read-leaf c = omega (arith, is_node c.before, (begin c.before).requires.0.level.room)
 
 mul-wide16 : tie.Need-overflow-mul-wide16 invariant-loop decreases-loop
 mul-wide16 c = omega (arith, is_node c.before)
 
 shared-slice-read-wide16 : tie.Need-shared-slice-read-wide16 invariant-loop decreases-loop
-shared-slice-read-wide16 c = let d = c.before.before in omega (arith, is_node d, (begin d).requires.0.columns.start)
+shared-slice-read-wide16 c = let d = c.before.before in omega (arith, is_node d, (begin d).requires.0.start.room)
 
 wide16-requires : tie.Need-wide16-requires invariant-loop decreases-loop
 wide16-requires c κs = tt
 
 shared-slice-read-wide8 : tie.Need-shared-slice-read-wide8 invariant-loop decreases-loop
-shared-slice-read-wide8 c = let d = c.before.before.before.before in omega (arith, is_node d, (begin d).requires.0.columns.count)
+shared-slice-read-wide8 c = let d = c.before.before.before.before in omega (arith, is_node d, (begin d).requires.0.count.room)
 
 wide8-requires : tie.Need-wide8-requires invariant-loop decreases-loop
 wide8-requires c κs = tt
@@ -89,8 +80,8 @@ abbrev within : tie.After-wide8 invariant-loop decreases-loop → tie.In-loop in
 within c = c.before.before.before.before.before
 
 -- its run
-read : (c : tie.After-wide8 invariant-loop decreases-loop) → let d = within c in Read (places (table_at (begin d))) (shape_at (begin d)) (at d) c.before.before.wide16.result c.wide8.result
-read c = record { downward = (begin (within c)).requires.0; known = (is_node (within c)).0; start = c.before.before.wide16.ensures; count = c.wide8.ensures }
+read : (c : tie.After-wide8 invariant-loop decreases-loop) → let d = within c in Read (table_at (begin d)) (shape_at (begin d)) (at d) c.before.before.wide16.result c.wide8.result
+read c = record { laid = (begin (within c)).requires.0; known = (is_node (within c)).0; start = c.before.before.wide16.ensures; count = c.wide8.ensures }
 
 run-box-requires : tie.Need-run-box-requires invariant-loop decreases-loop
 run-box-requires c κs =
@@ -99,10 +90,10 @@ run-box-requires c κs =
     let v = (within w).before.loop.invariant in
     let leaf = leaf_run (read w) in
     let node = node_run (read w) in (
-      λ e. (leaf e, wider (omega (arith, p.y)) (leaf e)),
+      λ e. (leaf e, wider (omega (arith, p.1.y)) (leaf e)),
       (
-        λ e. (wider (omega (arith, v.x_lo)) (node e), wider (omega (arith, v.x_hi)) (node e)),
-        λ e. (wider (omega (arith, v.y_lo)) (node e), wider (omega (arith, v.y_hi)) (node e)),
+        λ e. (wider (omega (arith, p.0, v.x_lo)) (node e), wider (omega (arith, p.0, v.x_hi)) (node e)),
+        λ e. (wider (omega (arith, p.0, v.y_lo)) (node e), wider (omega (arith, p.0, v.y_hi)) (node e)),
       ),
     )
 
@@ -114,7 +105,7 @@ run-kit-requires c κs =
     let w = boxed c.before in
     let p = (begin (within w)).requires.1.0 in
     let v = (within w).before.loop.inv in
-    (λ e. wider (omega (arith, p.kit)) (leaf_run (read w) e), λ e. wider (omega (arith, v.words)) (node_run (read w) e))
+    (λ e. wider (omega (arith, p.1.kit)) (leaf_run (read w) e), λ e. wider (omega (arith, p.0, v.words)) (node_run (read w) e))
 
 abbrev kitted : tie.After-struct-told4 invariant-loop decreases-loop → tie.After-run-kit invariant-loop decreases-loop
 kitted c = c.before.before.before.before.before.before
@@ -161,16 +152,16 @@ loop-again c =
     let b = k.before.before in
     let w = boxed b in
     let d = within w in
+    let n = (begin d).pre.1.0.0 in
     let t = table_at (begin d) in
-    let o = (begin d).pre.0 in
     let v = d.before.loop.inv in
-    let e = run_due (read w) join_boxes (table.box_of t) (box_of t (sides_at d)) (follower_follows join_boxes (table.box_of t) o) b.run-box.ensures (λ p. refl) (λ q a h. box_filled v q (omega arith) h) in
-    let f = run_due (read w) bit_or (table.kit_of t) (kit_of t d.before.loop.kits) (follower_follows bit_or (table.kit_of t) o) k.run-kit.ensures (λ p. refl) (λ q a h. v.words.filled q (omega arith) h) in
+    let e = run_due (read w) join_boxes (table.box_of t) (box_of t (sides_at d)) b.run-box.ensures (λ p. refl) (λ q a h. box_filled v q (omega arith) (omega (arith, n))) in
+    let f = run_due (read w) bit_or (table.kit_of t) (kit_of t d.before.loop.kits) k.run-kit.ensures (λ p. refl) (λ q a h. v.words.filled q (omega arith) (omega (arith, n))) in
     let r = b.run-box.result in
     let x = c.before.before.struct-told2.given in
     let y = c.struct-told4.given in
     rw (to_z-of_z (fit r.x.lo x.0.1), to_z-of_z (fit r.x.hi x.1.0.1), to_z-of_z (fit r.y.lo y.0.1), to_z-of_z (fit r.y.hi y.1.0.1))
-    (value_more v r k.run-kit.result (omega (arith, d.loop-test.taken)) e f)
+    (value_more v r k.run-kit.result d.loop-test.taken e f)
 
 same_length : tie.Need-same-length invariant-loop decreases-loop
 same_length c = c.before.loop.invariant.x_lo.same
@@ -187,19 +178,11 @@ same-length-4 c = c.before.loop.invariant.y_hi.same
 same-length-5 : tie.Need-same-length-5 invariant-loop decreases-loop
 same-length-5 c = c.before.loop.invariant.words.same
 
--- whatever follows the runs agrees with what was filled
-boxes_are : (s : Start) {f : ℕ → Box} → Follows join_boxes (table.box_of (table_at s)) (shape_at s) f → (m : ℕ) → m < s.args.nodes → boxes (table_at s) (shape_at s) m ≡ f m
-boxes_are s u = let g = table.box_of (table_at s) in one_follows join_boxes g s.requires.0 (follower_follows join_boxes g s.requires.0) u
-
-words_are : (s : Start) {f : ℕ → ℕ} → Follows bit_or (table.kit_of (table_at s)) (shape_at s) f → (m : ℕ) → m < s.args.nodes → words (table_at s) (shape_at s) m ≡ f m
-words_are s u = let g = table.kit_of (table_at s) in one_follows bit_or g s.requires.0 (follower_follows bit_or g s.requires.0) u
-
 returns : tie.Need-returns invariant-loop decreases-loop
 returns c =
-    let s = c.before.before.before.before.before.before.before.before in
     let v = c.before.loop.invariant in
     let z : c.before.loop.m ≡ 0 = omega arith in
-    (λ f u. boxes_filled v z (boxes_are s u), λ f u. fill_done (fill_as v.words (words_are s u)) z refl)
+    (fill_done v.x_lo z refl, (fill_done v.x_hi z refl, (fill_done v.y_lo z refl, (fill_done v.y_hi z refl, fill_done v.words z refl))))
 
 pub fill_values_spec : {M : Type 1} → statement M
 fill_values_spec =

@@ -5,42 +5,44 @@ use Prim.Native.Nat.{ℕ, ◌+◌, ◌-◌, ◌≤◌, ◌<◌, max}
 use native.Mathlib.Omega.{arith}
 use borrow.Author.Rules.{rules}
 use borrow.Author.Tests.{not-true, not-false}
-use lib.ListN.{length, take, get_or, set}
+use lib.ListN.{take, get_or, set}
 use Rattle.plane.specs.Plane.{Ranged}
 use Rattle.plane.specs.declared.Box.{Box}
 use Rattle.table.specs.Table.{Table, table}
 use Rattle.tree.specs.Tree.{Tree, Sides, Thing, place, box_of}
 use Rattle.tree.specs.Lent.{shape, sides, tree}
 use Rattle.tree.specs.Rules.{lengths, Room}
-use Rattle.members.specs.Boxes.{without, AllRanged, boxes_at, UpTo, Taken}
+use Rattle.members.specs.Boxes.{without, AllRanged, boxes_at, UpTo}
 use Rattle.members.specs.Levels.{levels_at}
-use Rattle.members.specs.Kept.{Kept, kept_at, kept, improved}
+use Rattle.members.specs.Best.{best_at}
 use Rattle.walks.specs.Allowance.{Stand, stand}
-use Rattle.walks.specs.Walk.{Memory}
 use Rattle.closest.specs.Group.{farthest, spread}
 use Rattle.closest.specs.Candidate.{number, entry}
-use Rattle.closest.specs.Walk.{holds, boxes}
+use Rattle.closest.specs.Walk.{holds}
 use Rattle.groups.specs.Members.{Member, boxes_of, members_at, things_of}
 use Rattle.groups.specs.Opening.{Led}
+use Rattle.members.specs.declared.Best.{Best}
 use Rattle.groups.specs.declared.Opening.{Opening}
 use Rattle.groups.proofs.Opens.{Last}
-use Rattle.groups.proofs.EntryLaws.{Reads}
+use Rattle.groups.proofs.EntryLaws.{meets, ranged, Reads}
 use Rattle.groups.proofs.RunLaws.{kind_small, in_list, in_few, is_place, real, reads}
-use Rattle.groups.proofs.NextLaws.{Ready, Floor, next, up_near, up_made, up_far}
-use Rattle.groups.proofs.OpenedLaws.{lead_inside, lead_small, lead_there, in_range, ready, stay_in, last_groups, wide_max, numbers_next}
-use Rattle.groups.proofs.LoopLaws.{Going, at_first, over, skips, spends, drops, wide_group, learns}
+use Rattle.members.proofs.PlaceLaws.{group_long}
+use Rattle.groups.proofs.ColumnLaws.{boxes_of_lem, numbers_of}
+use Rattle.groups.proofs.OpenLaws.{boxes_ranged}
+use Rattle.groups.proofs.NextLaws.{Ready, groups, next, next_made, next_numbers, lead_inside, lead_there, ready, levels_down, up_near, up_known, up_far}
+use Rattle.groups.proofs.LoopLaws.{Going, at_first, over, skips, spends, drops, learns}
 use Rattle.groups.proofs.take_groups.Statement.{statement}
 use Rattle.groups.proofs.take_groups.Tie as tie
 
 -- the loop knows the kind of the opened member only, so it keeps this for all wanted kinds of which that is one
 abbrev invariant-loop : tie.invariant-loop
-invariant-loop level start count entries x y kit x_lo x_hi y_lo y_hi kits nodes listed m allowance top numbers west east south north steps₀ bound₀ places₀ o rest₀ floor₀ k₀ steps bound places rest floor k =
-    ((kinds : List ℕ) → Ready (table x y kit) (tree (shape nodes listed level start count entries) (sides x_lo x_hi y_lo y_hi) kits) (boxes (table x y kit) (tree (shape nodes listed level start count entries) (sides x_lo x_hi y_lo y_hi) kits)) kinds m (members_at (levels_at m top 1) numbers (sides west east south north)) top o →
-    Going (table x y kit) (tree (shape nodes listed level start count entries) (sides x_lo x_hi y_lo y_hi) kits) (boxes (table x y kit) (tree (shape nodes listed level start count entries) (sides x_lo x_hi y_lo y_hi) kits)) (kept (table x y kit) m) kinds allowance m (members_at (levels_at m top 1) numbers (sides west east south north)) top o (stand steps₀ false (kept_at bound₀ places₀)) steps (kept_at bound places) k)
-    × (Taken rest (spread (without top (take m (boxes_at (sides west east south north))))) × (Floor bound (spread (without top (take m (boxes_at (sides west east south north))))) floor × (length places ≡ 8)))
+invariant-loop level start count entries x y kit x_lo x_hi y_lo y_hi kits nodes listed m allowance top numbers west east south north steps₀ known₀ squared₀ places₀ o rest₀ k₀ steps known squared places rest k =
+    ((kinds : List ℕ) → Ready (table x y kit) (tree (shape nodes listed level start count entries) (sides x_lo x_hi y_lo y_hi) kits) kinds m (members_at (levels_at m top 1) numbers (sides west east south north)) o →
+    Going (table x y kit) (tree (shape nodes listed level start count entries) (sides x_lo x_hi y_lo y_hi) kits) kinds allowance m (members_at (levels_at m top 1) numbers (sides west east south north)) o (stand steps₀ false (best_at known₀ squared₀ places₀)) steps (best_at known squared places) k)
+    × (rest < 18446744073709551615 → rest ≡ spread (without top (take m (boxes_at (sides west east south north)))))
 
 abbrev decreases-loop : tie.decreases-loop
-decreases-loop level start count entries x y kit x_lo x_hi y_lo y_hi kits nodes listed m allowance top numbers west east south north steps₀ bound₀ places₀ o rest₀ floor₀ k₀ steps bound places rest floor k =
+decreases-loop level start count entries x y kit x_lo x_hi y_lo y_hi kits nodes listed m allowance top numbers west east south north steps₀ known₀ squared₀ places₀ o rest₀ k₀ steps known squared places rest k =
     o.many - k
 
 -- the places that the proof speaks of: the start, the opened candidate, the loop, an entry, and after each call
@@ -66,7 +68,7 @@ abbrev Boxed : Type 0
 Boxed = tie.After-box-at invariant-loop decreases-loop
 
 abbrev Measured : Type 0
-Measured = tie.After-row-from invariant-loop decreases-loop
+Measured = tie.After-row-of invariant-loop decreases-loop
 
 abbrev begin : Open → Start
 begin c = c.before.before.before.before.before.before.before.before
@@ -87,7 +89,7 @@ abbrev asked : Boxed → Asked
 asked c = c.before.before.before.before.before
 
 abbrev boxed : Measured → Boxed
-boxed c = c.before.before
+boxed c = c.before.before.before
 
 abbrev places : Start → Table
 places s = table s.args.x.now s.args.y.now s.args.kit.now
@@ -96,9 +98,6 @@ abbrev over_tree : Start → Tree
 over_tree s =
     tree (shape s.args.nodes s.args.listed s.args.level.now s.args.start.now s.args.count.now s.args.entries.now)
     (sides s.args.x_lo.now s.args.x_hi.now s.args.y_lo.now s.args.y_hi.now) s.args.kits.now
-
-abbrev own : Start → ℕ → Thing → Box
-own s = boxes (places s) (over_tree s)
 
 abbrev wanted : Start → List ℕ
 wanted s = take s.args.m s.args.kinds
@@ -109,69 +108,62 @@ ends s = sides s.args.west.now s.args.east.now s.args.south.now s.args.north.now
 abbrev cand : Start → List Member
 cand s = members_at (levels_at s.args.m s.args.top 1) s.args.numbers.now (ends s)
 
-abbrev memory : Start → Memory (List ℕ) Kept
-memory s = kept (places s) s.args.m
-
-abbrev first : Start → Stand Kept
-first s = stand s.args.steps.now false (kept_at s.args.bound.now s.args.places.now)
+abbrev first : Start → Stand Best
+first s = stand s.args.steps.now false (best_at s.args.known.now s.args.squared.now s.args.places.now)
 
 -- ---- the candidate is opened
 
 few : (s : Start) → s.args.m ≤ 8
-few s = s.requires.0.few.most
+few s = s.requires.1.0.0.most
 
 top_in : (s : Start) → s.args.top < s.args.m
-top_in s = lead_inside s.requires.0
+top_in s = lead_inside s.requires.0 s.args.kinds s.args.m (few s) s.args.top 1 s.args.numbers.now (ends s) s.requires.1.1.0
 
 mul-open-at : tie.Need-overflow-mul-open-at invariant-loop decreases-loop
-mul-open-at c = let s : Start = c.before.before.before.before.before.before in omega (arith, lead_small s.requires.0)
+mul-open-at c = let s : Start = c.before.before.before.before.before.before in omega (arith, top_in s, few s)
 
 element-copy-out-open-at : tie.Need-element-copy-out-open-at invariant-loop decreases-loop
-element-copy-out-open-at c = let s : Start = c.before.before.before.before.before.before in lead_small s.requires.0
+element-copy-out-open-at c = let s : Start = c.before.before.before.before.before.before in omega (arith, top_in s, few s)
 
 open-at-requires : tie.Need-open-at-requires invariant-loop decreases-loop
 open-at-requires c κs =
     let s : Start = c.before.before.before.before.before.before.before in
-    let there : get_or s.args.numbers.now s.args.top 0 < s.args.nodes = lead_there s.requires.0 in
-    let room : Room s.args.nodes s.args.listed (lengths (over_tree s)) = s.requires.0.walkable.counted.room in
+    let there : get_or s.args.numbers.now s.args.top 0 < s.args.nodes = lead_there s.requires.0 s.args.kinds s.args.m (few s) s.args.top 1 s.args.numbers.now (ends s) s.requires.1.1.0 in
+    let room : Room s.args.nodes s.args.listed (lengths (over_tree s)) = (meets s.requires.0).counted.room in
     (omega (arith, there, room.start), omega (arith, there, room.count))
 
 -- it is ready, for these kinds
 abbrev Can : Open → List ℕ → Type 0
-Can o kinds = let s = begin o in Ready (places s) (over_tree s) (own s) kinds s.args.m (cand s) s.args.top o.open_at.result
+Can o kinds = let s = begin o in Ready (places s) (over_tree s) kinds s.args.m (cand s) o.open_at.result
 
 can : (o : Open) → Can o (wanted (begin o))
-can o = ready (begin o).pre.0 o.open_at.ensures
+can o = let s = begin o in ready s.pre.0 s.args.kinds s.args.m (few s) s.args.top 1 s.args.numbers.now (ends s) s.pre.1.1.0 o.open_at.result o.open_at.ensures
+
+top_so : (o : Open) → o.open_at.result.top ≡ (begin o).args.top
+top_so o = ap (λ (a : Opening). a.top) o.open_at.ensures
 
 leaf_so : (o : Open) → o.open_at.result.leaf ≡ true
 leaf_so o = ap (λ (a : Opening). a.leaf) o.open_at.ensures
 
 -- what the loop keeps
-abbrev Goes : Open → ℕ → Kept → ℕ → Type 0
-Goes o steps known k =
-    (kinds : List ℕ) → Can o kinds → let s = begin o in Going (places s) (over_tree s) (own s) (memory s) kinds s.args.allowance s.args.m (cand s) s.args.top o.open_at.result (first s) steps known k
+abbrev Goes : Open → ℕ → Best → ℕ → Type 0
+Goes o steps best k =
+    (kinds : List ℕ) → Can o kinds → let s = begin o in Going (places s) (over_tree s) kinds s.args.allowance s.args.m (cand s) o.open_at.result (first s) steps best k
 
-abbrev known_at : Loop → Kept
-known_at l = kept_at l.loop.bound l.loop.places
+abbrev best_at_lem : Loop → Best
+best_at_lem l = best_at l.loop.known l.loop.squared l.loop.places
 
-goes : (l : Loop) → Goes (opened l) l.loop.steps (known_at l) l.loop.k
-goes l = l.loop.inv.0
+kept : (l : Loop) → Goes (opened l) l.loop.steps (best_at_lem l) l.loop.k
+kept l = l.loop.inv.0
 
 -- the groups that come of it
-last : (o : Open) → let s = begin o in Last (over_tree s) (things_of (take s.args.m (cand s))) s.args.top
-last o = let s = begin o in last_groups s.pre.0 o.open_at.ensures (omega (arith, s.pre.1.0)) refl
-
--- the others in the columns, and the largest distance of any two of them
-abbrev others : Start → List Box
-others s = without s.args.top (take s.args.m (boxes_at (ends s)))
-
-abbrev rest : Start → ℕ
-rest s = spread (others s)
+last : (o : Open) {kinds : List ℕ} → Can o kinds → let s = begin o in Last (over_tree s) (things_of (take s.args.m (cand s))) o.open_at.result.top
+last o r =
+    let s = begin o in
+    groups r (few s) 1 (levels_down s.pre.0 s.args.kinds s.args.m (few s) s.args.top 1 s.args.numbers.now (ends s) s.pre.1.1.0 o.open_at.result o.open_at.ensures) (omega (arith, top_so o, s.pre.1.0.1)) refl
 
 loop-holds : tie.Need-loop-init invariant-loop decreases-loop
-loop-holds c =
-    let s : Start = begin c in
-    (λ kinds r. at_first, (λ h. absurd (omega (arith, h)), ((omega arith, omega (arith, s.pre.0.opened.near, stay_in s.pre.0 c.open_at.ensures)), s.pre.1.1)))
+loop-holds c = let s : Start = begin c in (λ kinds r. at_first s.pre.1.1.0.near s.pre.1.1.0.eight, λ h. absurd (omega (arith, h)))
 
 -- ---- an entry, which is a place
 
@@ -182,16 +174,16 @@ abbrev number_read : Entry → ℕ
 number_read e = let o = opened (round e) in get_or (begin o).args.entries.now (o.open_at.result.first + (round e).loop.k) 0
 
 add-p : tie.Need-overflow-add-p invariant-loop decreases-loop
-add-p c = let r = can (opened (round c)) in omega (arith, in_few r.walkable r.opens (round c).loop.k c.before.if1.true)
+add-p c = let r = can (opened (round c)) in omega (arith, in_few r.passes r.opens (round c).loop.k c.before.if1.true)
 
 mul-p : tie.Need-overflow-mul-p invariant-loop decreases-loop
-mul-p c = let r = can (opened (round c)) in omega (arith, in_few r.walkable r.opens (round c).loop.k c.before.if1.true)
+mul-p c = let r = can (opened (round c)) in omega (arith, in_few r.passes r.opens (round c).loop.k c.before.if1.true)
 
 shared-slice-read-p : tie.Need-shared-slice-read-p invariant-loop decreases-loop
 shared-slice-read-p c =
     let e : Entry = c.before in
     let r = can (opened (round e)) in
-    in_list r.walkable r.opens (round e).loop.k e.before.if1.true
+    in_list r.passes r.opens (round e).loop.k e.before.if1.true
 
 wide16-requires : tie.Need-wide16-requires invariant-loop decreases-loop
 wide16-requires c κs = search rules
@@ -204,15 +196,15 @@ is_thing c =
     let e = at c in
     let o = opened (round e) in
     let r = can o in
-    ap place c.wide16.ensures ∙ is_place r.walkable r.opens (round e).loop.k e.before.if1.taken (leaf_so o)
+    ap place c.wide16.ensures ∙ is_place r.passes r.opens (round e).loop.k e.before.if1.taken (leaf_so o)
 
 -- where its columns are read
-read_at : (c : Read) → Reads (can (opened (round (at c)))).walkable true c.wide16.result
+read_at : (c : Read) → Reads (can (opened (round (at c)))).passes true c.wide16.result
 read_at c =
     let e = at c in
     let o = opened (round e) in
     let r = can o in
-    subst (λ (n : ℕ). Reads r.walkable true n) (sym c.wide16.ensures) (subst (λ (u : Bool). Reads r.walkable u (number_read e)) (leaf_so o) (reads r.walkable r.opens (round e).loop.k e.before.if1.taken))
+    subst (λ (n : ℕ). Reads r.passes true n) (sym c.wide16.ensures) (subst (λ (u : Bool). Reads r.passes u (number_read e)) (leaf_so o) (reads r.passes r.opens (round e).loop.k e.before.if1.taken))
 
 mul_holds : tie.Need-overflow-mul-holds invariant-loop decreases-loop
 mul_holds c = omega (arith, (read_at c).small)
@@ -221,10 +213,10 @@ shared-slice-read-holds : tie.Need-shared-slice-read-init invariant-loop decreas
 shared-slice-read-holds c = ((read_at c.before).place refl).1.1
 
 holds-requires : tie.Need-holds-requires invariant-loop decreases-loop
-holds-requires c κs = let o = opened (round (at c.before)) in let s = begin o in kind_small s.args.kinds s.args.m (can o).opens s.pre.0.few
+holds-requires c κs = let o = opened (round (at c.before)) in let s = begin o in kind_small s.args.kinds s.args.m (can o).opens s.pre.1.0.0
 
 -- does it hold the kind?
-held : (c : Asked) {kinds : List ℕ} → let o = opened (round (at (read c))) in let s = begin o in Can o kinds → c.holds.result ≡ holds (places s) (over_tree s) (get_or kinds (begin o).args.top 0) (y (at (read c)))
+held : (c : Asked) {kinds : List ℕ} → let o = opened (round (at (read c))) in let s = begin o in Can o kinds → c.holds.result ≡ holds (places s) (over_tree s) (get_or kinds o.open_at.result.top 0) (y (at (read c)))
 held c r =
     let s = begin (opened (round (at (read c)))) in
     c.holds.ensures ∙ ap₂ (λ (x : Thing) (kind : ℕ). holds (places s) (over_tree s) kind x) (is_thing (read c)) r.opens.kind
@@ -232,13 +224,18 @@ held c r =
 take-step-requires : tie.Need-take-step-requires invariant-loop decreases-loop
 take-step-requires c κs = tt
 
+-- an end, at the member that was opened
+ended : (o : Open) (to : Stand Best) → let s = begin o in Led (places s) (over_tree s) (wanted s) s.args.allowance s.args.m (cand s) o.open_at.result.top (first s) to →
+    Led (places s) (over_tree s) (wanted s) s.args.allowance s.args.m (cand s) s.args.top (first s) to
+ended o to e = let s = begin o in subst (λ (i : ℕ). Led (places s) (over_tree s) (wanted s) s.args.allowance s.args.m (cand s) i (first s) to) (top_so o) e
+
 returns : tie.Need-returns invariant-loop decreases-loop
 returns c =
     let a : Asked = c.before.before.before.before in
     let e = at (read a) in
     let l = round e in
     let r = can (opened l) in
-    (spends r _ _ _ (goes l _ r) e.before.if1.taken (sym (held a r) ∙ c.before.before.before.if2.true) (c.before.take_step.ensures.none (not-true _ c.if3.true)), l.loop.inv.1.1.1)
+    ended (opened l) _ (spends r _ _ (l.loop.inv.0 _ r) e.before.if1.taken (sym (held a r) ∙ c.before.before.before.if2.true) (c.before.take_step.ensures.none (not-true _ c.if3.true)))
 
 box-at-requires : tie.Need-box-at-requires invariant-loop decreases-loop
 box-at-requires c κs =
@@ -250,43 +247,46 @@ box-at-requires c κs =
 is_box : (c : Boxed) → let e = at (read (asked c)) in let s = begin (opened (round e)) in c.box_at_lem.result ≡ box_of (places s) (over_tree s).sides (y e)
 is_box c = let s = begin (opened (round (at (read (asked c))))) in c.box_at_lem.ensures ∙ ap (box_of (places s) (over_tree s).sides) (is_thing (read (asked c)))
 
-row-from-requires : tie.Need-row-from-requires invariant-loop decreases-loop
-row-from-requires c κs =
-    let b : Boxed = c.before in
+limit-of-requires : tie.Need-limit-of-requires invariant-loop decreases-loop
+limit-of-requires c κs = tt
+
+-- the boxes of the candidate
+boxes_so : (s : Start) → boxes_of (take s.args.m (cand s)) ≡ take s.args.m (boxes_at (ends s))
+boxes_so s = boxes_of_lem (levels_at s.args.m s.args.top 1) s.args.numbers.now (ends s) s.args.m
+
+ranged_boxes : (o : Open) → let s = begin o in AllRanged (take s.args.m (boxes_at (ends s)))
+ranged_boxes o = let s = begin o in let r = can o in subst AllRanged (boxes_so s) (boxes_ranged r.passes (wanted s) s.args.m (cand s) r.long r.fair)
+
+row-of-requires : tie.Need-row-of-requires invariant-loop decreases-loop
+row-of-requires c κs =
+    let b : Boxed = c.before.before in
     let e = at (read (asked b)) in
     let o = opened (round e) in
     let s = begin o in
     let r = can o in
-    ((few s, top_in s), (in_range s.pre.0, subst Ranged (sym (is_box b)) (r.walkable.ranged 0 (y e) (real r.walkable r.opens (round e).loop.k e.before.if1.taken))))
+    ((few s, top_in s), (ranged_boxes o, subst Ranged (sym (is_box b)) (ranged r.passes (y e) (real r.passes r.opens (round e).loop.k e.before.if1.taken))))
 
 abbrev entered : Measured → Entry
 entered c = at (read (asked (boxed c)))
 
 abbrev limit : Measured → ℕ
-limit c = (round (entered c)).loop.bound
-
-abbrev kept_now : Measured → ℕ
-kept_now c = (round (entered c)).loop.kept
-
--- the distances of the entry
-abbrev far : Measured → ℕ
-far c = let s = begin (opened (round (entered c))) in farthest (box_of (places s) (over_tree s).sides (y (entered c))) (others s)
+limit c = c.before.limit-of.result
 
 -- what the row says
-row_is : (c : Measured) → UpTo (limit c) (max (kept_now c) (far c)) c.row_from.result
+row_is : (c : Measured) →
+    let o = opened (round (entered c)) in
+    let s = begin o in
+    UpTo (limit c) (farthest (box_of (places s) (over_tree s).sides (y (entered c))) (without o.open_at.result.top (boxes_of (take s.args.m (cand s))))) c.row_of.result
 row_is c =
-    let s = begin (opened (round (entered c))) in
-    subst (λ (b : Box). UpTo (limit c) (max (kept_now c) (farthest b (others s))) c.row_from.result) (is_box (boxed c)) c.row_from.ensures
-
-abbrev rest_at : Measured → ℕ
-rest_at c = rest (begin (opened (round (entered c))))
-
--- the spread of the candidate of the entry
-made : (c : Measured) {kinds : List ℕ} → let l = round (entered c) in (r : Can (opened l) kinds) → spread (boxes_of (take (begin (opened l)).args.m (next r l.loop.k (entered c).before.if1.true))) ≡ max (rest_at c) (far c)
-made c r = let e = entered c in let o = opened (round e) in wide_max (begin o).pre.0 o.open_at.ensures (round e).loop.k e.before.if1.taken
+    let o = opened (round (entered c)) in
+    let s = begin o in
+    subst (λ (l : List Box). UpTo (limit c) (farthest (box_of (places s) (over_tree s).sides (y (entered c))) (without o.open_at.result.top l)) c.row_of.result) (sym (boxes_so s))
+    (subst (λ (i : ℕ). UpTo (limit c) (farthest (box_of (places s) (over_tree s).sides (y (entered c))) (without i (take s.args.m (boxes_at (ends s))))) c.row_of.result) (sym (top_so o))
+    (subst (λ (b : Box). UpTo (limit c) (farthest b (without s.args.top (take s.args.m (boxes_at (ends s))))) c.row_of.result) (is_box (boxed c))
+    c.row_of.ensures))
 
 -- the entry holds the kind, and a step was taken
-holding : (c : Measured) {kinds : List ℕ} → let o = opened (round (entered c)) in let s = begin o in Can o kinds → holds (places s) (over_tree s) (get_or kinds (begin o).args.top 0) (y (entered c)) ≡ true
+holding : (c : Measured) {kinds : List ℕ} → let o = opened (round (entered c)) in let s = begin o in Can o kinds → holds (places s) (over_tree s) (get_or kinds o.open_at.result.top 0) (y (entered c)) ≡ true
 holding c r = sym (held (asked (boxed c)) r) ∙ (boxed c).before.before.before.before.if2.true
 
 abbrev steps_now : Measured → ℕ
@@ -299,70 +299,75 @@ rest-of-requires : tie.Need-rest-of-requires invariant-loop decreases-loop
 rest-of-requires c κs =
     let l = round (entered c.before) in
     let s = begin (opened l) in
-    ((few s, top_in s), (in_range s.pre.0, l.loop.inv.1.0))
+    ((few s, top_in s), (ranged_boxes (opened l), l.loop.inv.1))
 
 larger-requires : tie.Need-larger-requires invariant-loop decreases-loop
 larger-requires c κs = tt
 
 offer-requires : tie.Need-offer-requires invariant-loop decreases-loop
 offer-requires c κs =
-    let l = round (entered c.before.before.before.before.before) in
+    let l = round (entered c.before.before.before.before.before.before) in
     let s = begin (opened l) in
-    ((few s, top_in s), (s.pre.0.eight.number, l.loop.inv.1.1.1))
+    ((few s, top_in s), (s.pre.1.1.1, (l.loop.inv.0 _ (can (opened l))).eight))
 
 -- one entry less is left
 fewer : (e : Entry) → let o = opened (round e) in o.open_at.result.many - ((round e).loop.k + 1) < o.open_at.result.many - (round e).loop.k
 fewer e = omega (arith, e.before.if1.taken)
 
 loop-less : tie.Need-loop-smaller invariant-loop decreases-loop
-loop-less c = fewer (entered c.before.before.before.before.before.before)
+loop-less c = fewer (entered c.before.before.before.before.before.before.before)
 
 -- the candidate of the entry is a group: its numbers and its spread
-group_of_lem : (c : Measured) → let o = opened (round (entered c)) in let s = begin o in
-    take s.args.m (set s.args.numbers.now s.args.top (number_read (entered c))) ≡ map number (set (things_of (take s.args.m (cand s))) s.args.top (y (entered c)))
-group_of_lem c = let e = entered c in let o = opened (round e) in numbers_next (begin o).pre.0 o.open_at.ensures (round e).loop.k e.before.if1.taken
+group_of_lem : (c : Measured) {kinds : List ℕ} → let o = opened (round (entered c)) in let s = begin o in Can o kinds →
+    take s.args.m (set s.args.numbers.now s.args.top (number_read (entered c))) ≡ map number (set (things_of (take s.args.m (cand s))) o.open_at.result.top (y (entered c)))
+group_of_lem c r =
+    let e = entered c in
+    let o = opened (round e) in
+    let s = begin o in
+    ap (λ (i : ℕ). take s.args.m (set s.args.numbers.now i (number_read e))) (sym (top_so o))
+    ∙ next_numbers r (round e).loop.k e.before.if1.taken s.args.numbers.now (numbers_of (levels_at s.args.m s.args.top 1) s.args.numbers.now (ends s) s.args.m s.pre.1.1.1)
+
+rest_so : (c : tie.After-rest-of invariant-loop decreases-loop) → let o = opened (round (entered c.before.before)) in let s = begin o in c.rest_of.result ≡ spread (without o.open_at.result.top (boxes_of (take s.args.m (cand s))))
+rest_so c =
+    let o = opened (round (entered c.before.before)) in
+    let s = begin o in
+    c.rest_of.ensures ∙ ap₂ (λ (i : ℕ) (b : List Box). spread (without i b)) (sym (top_so o)) (sym (boxes_so s))
 
 wide : (c : tie.After-larger invariant-loop decreases-loop) {kinds : List ℕ} → let d : Measured = c.before.before.before in let l = round (entered d) in (r : Can (opened l) kinds) → c.larger.result ≡ spread (boxes_of (take (begin (opened l)).args.m (next r l.loop.k (entered d).before.if1.true)))
 wide c r =
     let d : Measured = c.before.before.before in
-    let l = round (entered d) in
-    c.larger.ensures
-    ∙ ap (λ (n : ℕ). max n d.row_from.result) c.before.rest_of.ensures
-    ∙ up_made (limit d) (rest_at d) (far d) (kept_now d) l.loop.inv.1.1.0 (row_is d) (omega (arith, c.before.before.if4.true))
-    ∙ sym (made d r)
+    let e = entered d in
+    c.larger.ensures ∙ ap₂ max (rest_so c.before) ((row_is d).near (omega (arith, c.before.before.if4.true))) ∙ sym (next_made r (round e).loop.k e.before.if1.taken)
 
 -- it is learnt
-abbrev learnt-at : tie.After-offer invariant-loop decreases-loop → Kept
-learnt-at c = let last = c.offer.new.1.1.1.1.1 in kept_at last.0 last.1.0
-
-learnt : (c : tie.After-offer invariant-loop decreases-loop) → let d : Measured = c.before.before.before.before.before.before in let l = round (entered d) in Goes (opened l) (steps_now d) (learnt-at c) (l.loop.k + 1)
+learnt : (c : tie.After-offer invariant-loop decreases-loop) →
+    let d : Measured = c.before.before.before.before.before.before.before in
+    let l = round (entered d) in
+    let last = c.offer.new.1.1.1.1.1 in
+    Goes (opened l) (steps_now d) (best_at last.0 last.1.0 last.1.1.0) (l.loop.k + 1)
 learnt c kinds r =
-    let d : Measured = c.before.before.before.before.before.before in
+    let d : Measured = c.before.before.before.before.before.before.before in
     let e = entered d in
     let l = round e in
-    let o = opened l in
-    let s = begin o in
-    let b = e.before.if1.taken in
-    let near = up_near (limit d) (rest_at d) (far d) (kept_now d) l.loop.inv.1.1.0 (row_is d) (omega (arith, c.before.before.before.before.before.if4.true)) in
-    let across = wide c.before.before.before r ∙ wide_group r (memory s) _ _ (goes l kinds r) b (last o) in
-    learns r _ _ _ (goes l kinds r) b (holding d r) (counted d) (omega (arith, made d r, near)) (last o)
-    (c.offer.ensures.0 ∙ ap₂ (λ (g : List ℕ) (n : ℕ). improved s.args.m n g (known_at l)) (group_of_lem d) across)
+    let s = begin (opened l) in
+    learns r _ _ (kept l kinds r) e.before.if1.taken (holding d r) (counted d) (up_near (best_at_lem l) d.before.limit-of.ensures (row_is d) (omega (arith, c.before.before.before.before.before.before.if4.true))) (last (opened l) r) (group_of_lem d r)
+    (group_long s.args.m s.args.numbers.now s.args.top (number_read e) s.pre.1.1.1 (few s))
+    (wide c.before.before.before.before r) c.offer.ensures
 
 loop-again : tie.Need-loop-preserved invariant-loop decreases-loop
-loop-again c =
-    let q = c.before.before.before.before.rest_of.ensures in
-    (learnt c, (λ _. q, ((omega (arith, q), omega (arith, q)), c.offer.ensures.1)))
+loop-again c = (learnt c, λ _. c.before.before.before.before.before.rest_of.ensures)
 
 loop-less-2 : tie.Need-loop-smaller-2 invariant-loop decreases-loop
 loop-less-2 c = fewer (entered c.before)
 
-dropped : (c : tie.Else4 invariant-loop decreases-loop) → let l = round (entered c.before) in Goes (opened l) (steps_now c.before) (known_at l) (l.loop.k + 1)
+dropped : (c : tie.Else4 invariant-loop decreases-loop) → let l = round (entered c.before) in Goes (opened l) (steps_now c.before) (best_at_lem l) (l.loop.k + 1)
 dropped c kinds r =
     let d : Measured = c.before in
     let e = entered d in
     let l = round e in
-    let beyond = up_far (limit d) (rest_at d) (far d) (kept_now d) l.loop.inv.1.1.0 (row_is d) (omega (arith, c.if4.false)) in
-    drops r _ _ _ (goes l kinds r) e.before.if1.taken (holding d r) (counted d) refl (omega (arith, made d r, beyond))
+    let f : d.row_of.result < 18446744073709551616 = omega (arith, d.row_of.type-inv) in
+    let h : limit d < d.row_of.result = omega (arith, c.if4.false) in
+    drops r _ _ (kept l kinds r) e.before.if1.taken (holding d r) (counted d) (up_known (best_at_lem l) d.before.limit-of.ensures (row_is d) f h) (up_far (best_at_lem l) d.before.limit-of.ensures (row_is d) f h)
 
 loop-again-2 : tie.Need-loop-preserved-2 invariant-loop decreases-loop
 loop-again-2 c = (dropped c, (round (entered c.before)).loop.inv.1)
@@ -370,12 +375,12 @@ loop-again-2 c = (dropped c, (round (entered c.before)).loop.inv.1)
 loop-less-3 : tie.Need-loop-smaller-3 invariant-loop decreases-loop
 loop-less-3 c = fewer (at (read c.before))
 
-skipped : (c : tie.Else2 invariant-loop decreases-loop) → let l = round (at (read c.before)) in Goes (opened l) l.loop.steps (known_at l) (l.loop.k + 1)
+skipped : (c : tie.Else2 invariant-loop decreases-loop) → let l = round (at (read c.before)) in Goes (opened l) l.loop.steps (best_at_lem l) (l.loop.k + 1)
 skipped c kinds r =
     let a : Asked = c.before in
     let e = at (read a) in
     let l = round e in
-    skips r _ _ _ (goes l kinds r) e.before.if1.taken (sym (held a r) ∙ c.if2.false)
+    skips r _ _ (kept l kinds r) e.before.if1.taken (sym (held a r) ∙ c.if2.false)
 
 loop-again-3 : tie.Need-loop-preserved-3 invariant-loop decreases-loop
 loop-again-3 c = (skipped c, (round (at (read c.before))).loop.inv.1)
@@ -384,7 +389,7 @@ returns-2 : tie.Need-returns-2 invariant-loop decreases-loop
 returns-2 c =
     let l : Loop = c.before.before in
     let r = can (opened l) in
-    (over r _ _ _ (goes l _ r) c.if1.false, l.loop.invariant.1.1.1)
+    ended (opened l) _ (over r _ _ (l.loop.invariant.0 _ r) c.if1.false)
 
 pub take_groups_spec : {M : Type 1} → statement M
 take_groups_spec =
@@ -407,7 +412,8 @@ take_groups_spec =
     take-step-requires
     returns
     box-at-requires
-    row-from-requires
+    limit-of-requires
+    row-of-requires
     rest-of-requires
     larger-requires
     offer-requires

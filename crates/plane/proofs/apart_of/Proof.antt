@@ -24,13 +24,13 @@ within c =
     let p = c.before.before.before.before.before.before.requires in
     (small c.before.before.before.gap_of.ensures p.0.x p.1.x, small c.gap-of2.ensures p.0.y p.1.y)
 
-mul-result : tie.Need-overflow-mul-result
+mul-result : tie.Need-overflow_mul-result
 mul-result c = omega (arith, within c)
 
-mul-result-2 : tie.Need-overflow-mul-result-2
+mul-result-2 : tie.Need-overflow_mul-result-2
 mul-result-2 c = omega (arith, within c)
 
-add-result : tie.Need-overflow-add-result
+add-result : tie.Need-overflow_add-result
 add-result c = omega (arith, within c)
 
 returns : tie.Need-returns

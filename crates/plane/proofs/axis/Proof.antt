@@ -5,21 +5,21 @@ use Rattle.plane.proofs.SignedLaws.{wide, widened, diff_fits, diff_held, square_
 use Rattle.plane.proofs.axis.Statement.{statement}
 use Rattle.plane.proofs.axis.Tie as tie
 
-cast-d : tie.Need-overflow-cast-d
+cast-d : tie.Need-overflow_cast-d
 cast-d c = rw (to_z-of_z c.ranges.a) (wide c.ranges.a)
 
-cast-d-2 : tie.Need-overflow-cast-d-2
+cast-d-2 : tie.Need-overflow_cast-d-2
 cast-d-2 c = rw (to_z-of_z c.ranges.b) (wide c.ranges.b)
 
-sub-d : tie.Need-overflow-sub-d
+sub-d : tie.Need-overflow_sub-d
 sub-d c = rw (widened c.ranges.a, widened c.ranges.b) (diff_fits c.ranges.a c.ranges.b)
 
-mul-result : tie.Need-overflow-mul-result
+mul-result : tie.Need-overflow_mul-result
 mul-result c =
     let h = difference_le c.args.a c.args.b c.requires.0 c.requires.1 in
     rw (diff_held c.ranges.a c.ranges.b) (square_fits (c.args.a -ℤ c.args.b) h)
 
-cast-result : tie.Need-overflow-cast-result
+cast-result : tie.Need-overflow_cast-result
 cast-result c =
     let h = difference_le c.args.a c.args.b c.requires.0 c.requires.1 in
     rw (diff_held c.ranges.a c.ranges.b, to_z-of_z (square_fits (c.args.a -ℤ c.args.b) h)) (square_cast (c.args.a -ℤ c.args.b) h)

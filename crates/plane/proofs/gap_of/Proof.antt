@@ -13,10 +13,10 @@ use Rattle.plane.proofs.SignedLaws.{fit, size}
 use Rattle.plane.proofs.gap_of.Statement.{statement}
 use Rattle.plane.proofs.gap_of.Tie as tie
 
-rise-of-requires : tie.Need-rise-of-requires
+rise-of-requires : tie.Need-rise_of-requires
 rise-of-requires c κs = search rules
 
-rise-of-requires-2 : tie.Need-rise-of-requires-2
+rise-of-requires-2 : tie.Need-rise_of-requires-2
 rise-of-requires-2 c κs = search rules
 
 -- what `rise_of` answers on two fields, and how much that can be
@@ -31,13 +31,13 @@ said {a} {b} h k e =
     let s = rw (to_z-of_z f, to_z-of_z g) at e in
     record { is = s; small = omega (arith, s, rise_is a b, size f, size g) }
 
-first : (c : tie.After-rise-of) → let v = c.before.before.before.args in Risen v.s.hi v.t.lo c.rise-of.result
-first c = said c.before.before.struct_told.given.1.0.1 c.before.struct-told2.given.0.1 c.rise-of.ensures
+first : (c : tie.After-rise_of) → let v = c.before.before.before.args in Risen v.s.hi v.t.lo c.rise_of.result
+first c = said c.before.before.struct_told.given.1.0.1 c.before.struct-told2.given.0.1 c.rise_of.ensures
 
-second : (c : tie.After-rise-of2) → let v = c.before.before.before.before.before.before.args in Risen v.t.hi v.s.lo c.rise-of2.result
-second c = said c.before.before.struct-told3.given.1.0.1 c.before.struct-told4.given.0.1 c.rise-of2.ensures
+second : (c : tie.After-rise_of-2) → let v = c.before.before.before.before.before.before.args in Risen v.t.hi v.s.lo c.rise_of-2.result
+second c = said c.before.before.struct-told3.given.1.0.1 c.before.struct-told4.given.0.1 c.rise_of-2.ensures
 
-add-result : tie.Need-overflow-add-result
+add-result : tie.Need-overflow_add-result
 add-result c = omega (arith, (first c.before.before.before).small, (second c).small)
 
 returns : tie.Need-returns

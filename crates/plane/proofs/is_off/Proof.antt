@@ -14,7 +14,7 @@ use Rattle.plane.proofs.is_off.Tie as tie
 said : {z : ℤ} {r : Bool} → SFits w32 z → r ≡ outside (to_z w32 (of_z w32 z)) → r ≡ outside z
 said f e = rw (to_z-of_z f) at e
 
-is-outside-requires : tie.Need-is-outside-requires
+is-outside-requires : tie.Need-is_outside-requires
 is-outside-requires c κs = search rules
 
 is-outside-requires-2 : tie.Need-is-outside-requires-2

@@ -5,13 +5,13 @@ use Rattle.plane.proofs.SignedLaws.{wide, widened, diff_fits, diff_held, diff_ca
 use Rattle.plane.proofs.rise_of.Statement.{statement}
 use Rattle.plane.proofs.rise_of.Tie as tie
 
-cast-result : tie.Need-overflow-cast-result
+cast-result : tie.Need-overflow_cast-result
 cast-result c = rw (to_z-of_z c.before.ranges.b) (wide c.before.ranges.b)
 
 cast-result-2 : tie.Need-overflow-cast-result-2
 cast-result-2 c = rw (to_z-of_z c.before.ranges.a) (wide c.before.ranges.a)
 
-sub-result : tie.Need-overflow-sub-result
+sub-result : tie.Need-overflow_sub-result
 sub-result c =
     let f = c.before.ranges in
     rw (widened f.b, widened f.a) (diff_fits f.b f.a)

@@ -19,7 +19,7 @@ loop-holds c = omega arith
 add-loop : tie.Need-overflow-add-loop invariant-loop decreases-loop
 add-loop c = omega arith
 
-add-mid : tie.Need-overflow-add-mid invariant-loop decreases-loop
+add-mid : tie.Need-overflow_add-mid invariant-loop decreases-loop
 add-mid c = omega arith
 
 mul-if1 : tie.Need-overflow-mul-if1 invariant-loop decreases-loop

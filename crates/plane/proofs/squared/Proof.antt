@@ -13,16 +13,16 @@ use Rattle.plane.proofs.squared.Tie as tie
 said : {a b : ℤ} {r t : Bool} → SFits w32 a → SFits w32 b → r ≡ (outside (to_z w32 (of_z w32 a)) || outside (to_z w32 (of_z w32 b))) → r ≡ t → (outside a || outside b) ≡ t
 said f g e h = sym (rw (to_z-of_z f, to_z-of_z g) at e) ∙ h
 
-is-off-requires : tie.Need-is-off-requires
+is-off-requires : tie.Need-is_off-requires
 is-off-requires c κs = search rules
 
 returns : tie.Need-returns
 unfolding measured
 returns c =
     let f = c.before.before.ranges in
-    rw (said f.ax f.ay c.before.is-off.ensures c.if1.true)
+    rw (said f.ax f.ay c.before.is_off.ensures c.if1.true)
 
-is-off-requires-2 : tie.Need-is-off-requires-2
+is-off-requires-2 : tie.Need-is_off-requires-2
 is-off-requires-2 c κs = search rules
 
 -- both points are in range
@@ -43,7 +43,7 @@ returns-2 c =
       said f.bx f.by c.before.is-off2.ensures c.if2.true,
     )
 
-squared-within-requires : tie.Need-squared-within-requires
+squared-within-requires : tie.Need-squared_within-requires
 squared-within-requires c κs =
     let f = c.before.before.before.before.ranges in
     rw (to_z-of_z f.ax, to_z-of_z f.ay, to_z-of_z f.bx, to_z-of_z f.by) (in_range c)

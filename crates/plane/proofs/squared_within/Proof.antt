@@ -31,14 +31,14 @@ axis-requires c κs = asked c.ranges.ax c.ranges.bx (in_x c)
 axis-requires-2 : tie.Need-axis-requires-2
 axis-requires-2 c κs = asked c.before.ranges.ay c.before.ranges.by (in_y c.before)
 
-add-result : tie.Need-overflow-add-result
+add-result : tie.Need-overflow_add-result
 add-result c =
     let s = c.before.before in
     let v = s.args in
     omega (
       arith,
       said s.ranges.ax s.ranges.bx c.before.axis.ensures,
-      said s.ranges.ay s.ranges.by c.axis2.ensures,
+      said s.ranges.ay s.ranges.by c.axis-2.ensures,
       square_le (nat_abs (v.ax -ℤ v.bx)) 2000000 (difference_le v.ax v.bx (in_x s).0 (in_x s).1),
       square_le (nat_abs (v.ay -ℤ v.by)) 2000000 (difference_le v.ay v.by (in_y s).0 (in_y s).1),
     )
@@ -51,7 +51,7 @@ returns c =
     omega (
       arith,
       said s.ranges.ax s.ranges.bx c.before.axis.ensures,
-      said s.ranges.ay s.ranges.by c.axis2.ensures,
+      said s.ranges.ay s.ranges.by c.axis-2.ensures,
       squares_add (v.ax -ℤ v.bx) (v.ay -ℤ v.by),
     )
 

@@ -64,7 +64,7 @@ module _ {M : Type 1} {𝓤 : Ura M} (𝓛 : Logic 𝓤) (mem : Memory → SProp
   Post = (walk_of 𝓛 moved.ended stayed (moved.clauses 𝓛 mem run)).post (((κ, tt), (q, tt), tt, (d, (n, tt)), at), tt)
 
   abbrev Own : Fml
-  Own = (B (κ, tt)).own d (mach ∷ [])
+  Own = (B (κ, tt)).own_val d (mach ∷ [])
 
   exits : ent 𝓤 (on_entry 𝓛 moved.signature (κ, tt) (q, tt) (d, (n, tt)) at) (Post (T'.lowered d'))
   exits =

@@ -122,8 +122,8 @@ module _ {M : Type 1} {𝓤 : Ura M} (𝓛 : Logic 𝓤) (mem : Memory → SProp
   abbrev to_moved : Reader → Val → (Moved 𝓛 mem run).Ghost
   to_moved r u = (((κ, tt), (q, tt), tt, (r, (n, tt)), (u ∷ [], (vint w64 n ∷ [], tt))), tt)
 
-  goes_moved : (r : Reader) (u : Val) → ent 𝓤 (⋆ 𝓛 (‵ ((B (κ, tt)).own r (u ∷ [])) ∷ (‵ (flft κ q) ⊛ ‵ ftrue) ∷ [])) ((Moved 𝓛 mem run).pre (to_moved r u))
-  goes_moved r u = qed 𝓛 (‵ ((B (κ, tt)).own r (u ∷ [])) ∷ (‵ (flft κ q) ⊛ ‵ ftrue) ∷ []) ∵ nothing ! $ owned ! usize (Is usize) (uint_Makes 𝓛 w64) n _ (refl, n-fits) $ fjoin ! $ move ! (1 ∷ 0 ∷ []) $ fjoin ! $ move ! (1 ∷ 0 ∷ []) $ join ! $ frame ! $ done !
+  goes_moved : (r : Reader) (u : Val) → ent 𝓤 (⋆ 𝓛 (‵ ((B (κ, tt)).own_val r (u ∷ [])) ∷ (‵ (flft κ q) ⊛ ‵ ftrue) ∷ [])) ((Moved 𝓛 mem run).pre (to_moved r u))
+  goes_moved r u = qed 𝓛 (‵ ((B (κ, tt)).own_val r (u ∷ [])) ∷ (‵ (flft κ q) ⊛ ‵ ftrue) ∷ []) ∵ nothing ! $ owned ! usize (Is usize) (uint_Makes 𝓛 w64) n _ (refl, n-fits) $ fjoin ! $ move ! (1 ∷ 0 ∷ []) $ fjoin ! $ move ! (1 ∷ 0 ∷ []) $ join ! $ frame ! $ done !
 
   moved_said : (r r' : Reader) → ent 𝓤 (ensured 𝓛 moved.ended (moved.clauses 𝓛 mem run) (κ, tt) (r, (n, tt)) tt r') (fact 𝓤 ((r'.src ≡ r.src) × (r'.at ≡ n)))
   moved_said r r' = ex_e 𝓤 _ (λ ws. snd∗ 𝓤 (sem 𝓛 (lasts moved.ended (κ, tt) (r, (n, tt)) ws)) (fact 𝓤 ((r'.src ≡ r.src) × (r'.at ≡ n))))
@@ -132,8 +132,8 @@ module _ {M : Type 1} {𝓤 : Ura M} (𝓛 : Logic 𝓤) (mem : Memory → SProp
   abbrev to_rest : Reader → Val → (Rest 𝓛 mem run).Ghost
   to_rest r u = (((κ, tt), (q, tt), tt, (r, (p, tt)), (u ∷ [], (vint w64 p ∷ [], tt))), tt)
 
-  goes_rest : (r : Reader) (u : Val) → Within r.src r.at p → ent 𝓤 (⋆ 𝓛 (‵ ((B (κ, tt)).own r (u ∷ [])) ∷ (‵ (flft κ q) ⊛ ‵ ftrue) ∷ [])) ((Rest 𝓛 mem run).pre (to_rest r u))
-  goes_rest r u h = qed 𝓛 (‵ ((B (κ, tt)).own r (u ∷ [])) ∷ (‵ (flft κ q) ⊛ ‵ ftrue) ∷ []) ∵ says ! h $ nothing ! $ owned ! usize (Is usize) (uint_Makes 𝓛 w64) p _ (refl, p-fits) $ fjoin ! $ move ! (1 ∷ 0 ∷ []) $ fjoin ! $ move ! (1 ∷ 0 ∷ []) $ frame ! $ done !
+  goes_rest : (r : Reader) (u : Val) → Within r.src r.at p → ent 𝓤 (⋆ 𝓛 (‵ ((B (κ, tt)).own_val r (u ∷ [])) ∷ (‵ (flft κ q) ⊛ ‵ ftrue) ∷ [])) ((Rest 𝓛 mem run).pre (to_rest r u))
+  goes_rest r u h = qed 𝓛 (‵ ((B (κ, tt)).own_val r (u ∷ [])) ∷ (‵ (flft κ q) ⊛ ‵ ftrue) ∷ []) ∵ says ! h $ nothing ! $ owned ! usize (Is usize) (uint_Makes 𝓛 w64) p _ (refl, p-fits) $ fjoin ! $ move ! (1 ∷ 0 ∷ []) $ fjoin ! $ move ! (1 ∷ 0 ∷ []) $ frame ! $ done !
 
   rest_said : (r : Reader) (t : Sheet) → ent 𝓤 (ensured 𝓛 rest.ended (rest.clauses 𝓛 mem run) (κ, tt) (r, (p, tt)) tt t) (fact 𝓤 (t ≡ sheet_of (read_sheet r.src.now)))
   rest_said r t = ex_e 𝓤 _ (λ ws. snd∗ 𝓤 (sem 𝓛 (lasts rest.ended (κ, tt) (r, (p, tt)) ws)) (fact 𝓤 (t ≡ sheet_of (read_sheet r.src.now))))
@@ -152,14 +152,14 @@ module _ {M : Type 1} {𝓤 : Ura M} (𝓛 : Logic 𝓤) (mem : Memory → SProp
         pass1 ! (init ! 8 refl ((shr_slice_Lawful 𝓛 (named 0) κ u8).typed s (v ∷ []) is).0) $ pass1 ! (init ! 6 refl (tt, record { fits = n-fits })) $ pass1 ! (init ! 4 refl (tt, record { fits = p-fits })) $ pass0 ! $
         move ! (12 ∷ []) $ use1 𝓛 (raw ((New 𝓛 mem run).pre to_new) ⊛ ‵ Own) goes_new $ split ! $
         calls_at ! fm (New 𝓛 mem run) known-new to_new (and_then ! (load ! (from ! (stop !)) (look ! 10 refl)) (no_more !)) (λ u.
-        use1 𝓛 (later (some (λ (r : Reader). ((‵ (flft κ q) ⊛ ‵ ftrue) ⊛ ‵ ((B (κ, tt)).own r (u ∷ []))) ⊛ raw (ensured 𝓛 new.ended (new.clauses 𝓛 mem run) (κ, tt) (s, tt) tt r)))) (id⊢ 𝓤 _) $ await ! tt $ pick ! (λ r.
+        use1 𝓛 (later (some (λ (r : Reader). ((‵ (flft κ q) ⊛ ‵ ftrue) ⊛ ‵ ((B (κ, tt)).own_val r (u ∷ []))) ⊛ raw (ensured 𝓛 new.ended (new.clauses 𝓛 mem run) (κ, tt) (s, tt) tt r)))) (id⊢ 𝓤 _) $ await ! tt $ pick ! (λ r.
         split ! $ move ! (1 ∷ []) $ use1 𝓛 (raw (fact 𝓤 ((r.src ≡ s) × (r.at ≡ 0)))) (new_said r) $ heard ! ((r.src ≡ s) × (r.at ≡ 0)) (λ e. split ! $ move ! (1 ∷ []) $
         -- [what the struct owns; the token; what s owns; room for _5; …; room for _4; …; _3; …; _2; …; _1; …; room for _0; …]
         peeks ! (B (κ, tt)) (Is (B (κ, tt))) (shows 𝓛 (B (κ, tt))) r (u ∷ []) (λ is₁.
         land ! (from ! (stop !)) (init ! 3 refl ((LL.lawful (T.the_type αᵉ) (T'.the_laws αᵉ) 𝓛).typed r _ is₁).0) $
         use2 𝓛 (raw ((Moved 𝓛 mem run).pre (to_moved r u))) (goes_moved r u) $
         calls_at ! fm (Moved 𝓛 mem run) known-moved (to_moved r u) (and_then ! (load ! (from ! (stop !)) (look ! 2 refl)) (and_then ! (load ! (from ! (stop !)) (look ! 8 refl)) (no_more !))) (λ u₂.
-        use1 𝓛 (later (some (λ (r₂ : Reader). ((‵ (flft κ q) ⊛ ‵ ftrue) ⊛ ‵ ((B (κ, tt)).own r₂ (u₂ ∷ []))) ⊛ raw (ensured 𝓛 moved.ended (moved.clauses 𝓛 mem run) (κ, tt) (r, (n, tt)) tt r₂)))) (id⊢ 𝓤 _) $ await ! tt $ pick ! (λ r₂.
+        use1 𝓛 (later (some (λ (r₂ : Reader). ((‵ (flft κ q) ⊛ ‵ ftrue) ⊛ ‵ ((B (κ, tt)).own_val r₂ (u₂ ∷ []))) ⊛ raw (ensured 𝓛 moved.ended (moved.clauses 𝓛 mem run) (κ, tt) (r, (n, tt)) tt r₂)))) (id⊢ 𝓤 _) $ await ! tt $ pick ! (λ r₂.
         split ! $ move ! (1 ∷ []) $ use1 𝓛 (raw (fact 𝓤 ((r₂.src ≡ r.src) × (r₂.at ≡ n)))) (moved_said r r₂) $ heard ! ((r₂.src ≡ r.src) × (r₂.at ≡ n)) (λ e₂. split ! $ move ! (1 ∷ []) $
         -- [what the struct owns; the token; what s owns; _5; …; room for _4; …; _3; …; _2; …; _1; …; room for _0; …]
         peeks ! (B (κ, tt)) (Is (B (κ, tt))) (shows 𝓛 (B (κ, tt))) r₂ (u₂ ∷ []) (λ is₂.

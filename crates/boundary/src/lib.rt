@@ -1,5 +1,7 @@
 // The library for C: every call over numbers and slices. An answer of several words is written at the start of a lent array, and the
 // call gives how many words that is; where the array is shorter it gives 0 and does nothing.
+#![tactic(auto)]
+
 ghost use Rattle.std.specs.Prelude.{◌≡◌};
 ghost use Rattle.plane.specs.Plane.{measured};
 ghost use Rattle.plane.specs.Root.{Root};

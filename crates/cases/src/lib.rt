@@ -1,4 +1,6 @@
 // What `trials` reads and writes, one number at a time: words of standard input, fields of standard output.
+#![tactic(auto)]
+
 pub mod show;
 pub mod words;
 

@@ -1,4 +1,6 @@
 // From an opened candidate down: it calls itself on the candidate with one member replaced.
+#![tactic(auto)]
+
 ghost use Rattle.std.specs.Prelude.{false, ◌<◌, take, set};
 ghost use Rattle.table.specs.Table.{table};
 ghost use Rattle.tree.specs.Lent.{shape, sides, tree};

@@ -1,4 +1,6 @@
 // The columns of our own tree, filled one after the other.
+#![tactic(auto)]
+
 ghost use Rattle.std.specs.Prelude.{◌≡◌, [], ◌++◌, suc, ◌≤◌, ◌<◌, length, drop};
 ghost use Rattle.order.specs.Order.{Plotted};
 ghost use Rattle.order.specs.Tab.{tab};

@@ -1,4 +1,6 @@
 // Kit words and wants: bit k of a word says that kind k is held.
+#![tactic(auto)]
+
 ghost use Rattle.std.specs.Prelude.{◌≡◌, ◌≤◌, ◌<◌, length};
 ghost use Rattle.kit.specs.Kit.{held, kinds, all_held, listed};
 

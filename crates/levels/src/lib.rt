@@ -1,4 +1,5 @@
 // Our own tree over a table, sixteen in a row: what it is. There are no functions here.
+#![tactic(auto)]
 
 // The level and the run of a node.
 #[derive(Drop)]

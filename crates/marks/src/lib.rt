@@ -1,4 +1,6 @@
 // The shape of a lent tree held against rule 24: nothing is named twice.
+#![tactic(auto)]
+
 ghost use Rattle.std.specs.Prelude.{◌≡◌, [], ◌∷◌, ◌+◌, ◌<◌, replicate};
 ghost use Rattle.verdict.specs.Rules.{Holds, AllHold, verdict};
 ghost use Rattle.tree.specs.Rules.{rules22, rule23, rule24};

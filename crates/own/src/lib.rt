@@ -1,4 +1,6 @@
 // The search of a table over our own tree, which is built for it.
+#![tactic(auto)]
+
 ghost use Rattle.std.specs.Prelude.{◌≡◌};
 ghost use Rattle.table.specs.Table.{table, Valid};
 ghost use Rattle.tree.specs.Lent.{shape, sides, tree};

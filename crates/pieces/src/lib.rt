@@ -1,4 +1,6 @@
 // The lines of a place sheet, written into a lent buffer one piece after the other.
+#![tactic(auto)]
+
 ghost use Rattle.std.specs.Prelude.{◌≡◌, List, ℕ, ◌+◌, ◌≤◌, ◌<◌, length};
 ghost use Rattle.table.specs.Table.{table, Even};
 ghost use Rattle.print.specs.Puts.{Puts};

@@ -1,4 +1,6 @@
 // Lines of a sheet read in one go, where they read well; all others are left to the readers of `lines`. No function changes what it was lent.
+#![tactic(auto)]
+
 ghost use Rattle.std.specs.Prelude.{◌≡◌, true, false, T, ◌≤◌, length, pos};
 ghost use Rattle.lines.specs.Form.{natural, coordinate, bits};
 ghost use Rattle.lines.specs.Line.{fair};

@@ -1,4 +1,6 @@
 // Lines of a sheet, `key=value`: found, compared, and their values read. No function changes what it was lent.
+#![tactic(auto)]
+
 ghost use Rattle.std.specs.Prelude.{◌≡◌, ℕ, ◌≤◌, length, drop, pos};
 ghost use Rattle.lines.specs.Text.{NoZero};
 ghost use Rattle.lines.specs.Form.{natural, coordinate, bits, word};

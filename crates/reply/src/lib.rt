@@ -1,4 +1,6 @@
 // What the program answers to the bytes of its input.
+#![tactic(auto)]
+
 ghost use Rattle.std.specs.Prelude.{◌≡◌, ◌≤◌, length};
 ghost use Rattle.rows.specs.Sheet.{read_sheet};
 ghost use Rattle.answer.specs.Lent.{laid, holding};

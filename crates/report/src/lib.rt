@@ -1,4 +1,6 @@
 // The lines of an answer, piece by piece.
+#![tactic(auto)]
+
 ghost use Rattle.std.specs.Prelude.{◌≡◌, ◌+◌, ◌≤◌, length};
 ghost use Rattle.verdict.specs.Families.{family_of};
 ghost use Rattle.kit.specs.Kit.{kinds};

@@ -1,1 +1,2 @@
 // Theory only: the place sheet, its bytes and what reading any bytes gives.
+#![tactic(auto)]

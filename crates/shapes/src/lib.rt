@@ -1,4 +1,6 @@
 // The shape of a lent tree held against the rules 21 to 23: its counts, its runs, and what its entries name.
+#![tactic(auto)]
+
 ghost use Rattle.std.specs.Prelude.{◌≡◌, List, [], ◌∷◌, ℕ, ◌+◌, ◌≤◌, ◌<◌, length, get_or};
 ghost use Rattle.verdict.specs.Rules.{AllHold, verdict};
 ghost use Rattle.tree.specs.Rules.{rule21, rules22, rule23};

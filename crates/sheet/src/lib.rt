@@ -1,4 +1,6 @@
 // The place sheet: written into a lent buffer, and read into lent columns.
+#![tactic(auto)]
+
 ghost use Rattle.std.specs.Prelude.{◌≡◌, ◌≤◌, min, length};
 ghost use Rattle.verdict.specs.Rules.{says, verdict};
 ghost use Rattle.table.specs.Table.{table};

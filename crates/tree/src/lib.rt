@@ -1,4 +1,6 @@
 // The tree over a table: its columns are lent and not trusted. What is read of them here, the check and the builder share.
+#![tactic(auto)]
+
 ghost use Rattle.std.specs.Prelude.{◌≡◌, true, false, [], ◌-◌, ◌<◌, length, get_or};
 ghost use Rattle.std.specs.Int.Bits.{bit_or};
 ghost use Rattle.plane.specs.Plane.{join_boxes};

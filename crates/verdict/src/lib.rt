@@ -1,4 +1,6 @@
 // Refusals: what a call says, and which family a refusal number belongs to.
+#![tactic(auto)]
+
 ghost use Rattle.std.specs.Prelude.{◌≡◌};
 ghost use Rattle.verdict.specs.Families.{family_of};
 

@@ -1,4 +1,6 @@
 // The whole walk of a want.
+#![tactic(auto)]
+
 ghost use Rattle.std.specs.Prelude.{◌≡◌, true, take};
 ghost use Rattle.table.specs.Table.{table};
 ghost use Rattle.tree.specs.Lent.{shape, sides, tree};

@@ -1,4 +1,6 @@
 // The printed answer of a search.
+#![tactic(auto)]
+
 ghost use Rattle.std.specs.Prelude.{◌≡◌, ◌≤◌, length};
 ghost use Rattle.kit.specs.Kit.{kinds};
 ghost use Rattle.print.specs.Puts.{Puts};

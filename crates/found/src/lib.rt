@@ -1,4 +1,6 @@
 // What a search gives: its fields for each way that it ends.
+#![tactic(auto)]
+
 ghost use Rattle.std.specs.Prelude.{◌≡◌, ◌≤◌, length};
 ghost use Rattle.kit.specs.Kit.{kinds};
 ghost use Rattle.table.specs.Table.{Table};

@@ -1,4 +1,6 @@
 // The check of a tree: its columns are lent and not trusted; they are held against every rule.
+#![tactic(auto)]
+
 ghost use Rattle.std.specs.Prelude.{◌≡◌, [], ◌∷◌, ◌≤◌, length};
 ghost use Rattle.table.specs.Table.{table, Even};
 ghost use Rattle.verdict.specs.Rules.{Holds, AllHold, verdict};

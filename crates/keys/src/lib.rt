@@ -1,4 +1,6 @@
 // The builder's key, and the words of a table's places.
+#![tactic(auto)]
+
 ghost use Rattle.std.specs.Prelude.{◌≡◌, false, ◌++◌, ◌+◌, ◌^◌, ◌≤◌, ◌<◌, length, drop};
 ghost use Rattle.plane.specs.Plane.{outside};
 ghost use Rattle.order.specs.Key.{shifted, interleaved, key};

@@ -1,4 +1,5 @@
 // Longhorbi: reads a place sheet from standard input and prints the answer to standard output.
+#![tactic(auto)]
 
 // One byte more than an input may have is read, so that 55 can be told. A read that fails ends the input.
 fn answer_into(input: &mut [u8], out: &mut [u8]) {

@@ -1,4 +1,6 @@
 // The members of a candidate, in columns of eight: which is topmost, how far they lie apart, and the group that they are.
+#![tactic(auto)]
+
 ghost use Rattle.std.specs.Prelude.{◌≡◌, true, false, cond, List, ℕ, ◌≤◌, ◌<◌, max, ℤ, length, take, drop, get_or, set};
 ghost use Rattle.plane.specs.Plane.{Ranged};
 ghost use Rattle.kit.specs.Kit.{held, padded};

@@ -1,4 +1,6 @@
 // The lines of a place sheet, read one part after the other.
+#![tactic(auto)]
+
 ghost use Rattle.std.specs.Prelude.{◌≡◌, true, false, ◌+◌, ◌≤◌, ◌<◌, length, drop, pos};
 ghost use Rattle.readers.specs.Readers.{Read};
 ghost use Rattle.rows.specs.Sheet.{place_part, query_part};

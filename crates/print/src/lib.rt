@@ -1,4 +1,6 @@
 // Text written into a lent buffer that has room for it: words, numbers, and lines of a key and a value.
+#![tactic(auto)]
+
 ghost use Rattle.std.specs.Prelude.{◌≡◌, ◌+◌, ◌≤◌, nat_abs, length};
 ghost use Rattle.lines.specs.Text.{decimal, hex, signed, width};
 ghost use Rattle.print.specs.Puts.{Puts, line_of};

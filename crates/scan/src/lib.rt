@@ -1,4 +1,6 @@
 // The passes over a place sheet: one that only reads, and one that stores its places.
+#![tactic(auto)]
+
 ghost use Rattle.std.specs.Prelude.{◌≡◌, List, ℕ, ◌≤◌, length, drop};
 ghost use Rattle.lines.specs.Line.{got};
 ghost use Rattle.lines.specs.Part.{several, fault};

@@ -1,5 +1,6 @@
 // The search on harbour H: over the builder's tree, over a foreign tree, and what it refuses; and on
 // two trees at the depth limit.
+#![tactic(auto)]
 
 fn put(word: &[u8], n: u64) {
     io::write_all(1, word);

@@ -1,4 +1,6 @@
 // The table of places, by columns, and its rules 11 and 12.
+#![tactic(auto)]
+
 ghost use Rattle.std.specs.Prelude.{◌≡◌};
 ghost use Rattle.verdict.specs.Rules.{verdict};
 ghost use Rattle.table.specs.Table.{table, table_rules};

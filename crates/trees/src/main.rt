@@ -1,4 +1,5 @@
 // Runs the builder and the check: on harbour H, on tables of many sizes, and on trees with one number changed.
+#![tactic(auto)]
 
 // Every lent column has room for the entry list of the largest tree.
 const ROOM: usize = 4368;

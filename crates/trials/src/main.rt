@@ -1,4 +1,6 @@
 // Calls of the library, asked by words on standard input and answered by lines on standard output (docs/TRIALS.md).
+#![tactic(auto)]
+
 use cases::{BUFFER, show, words};
 
 mod answers;

@@ -1,1 +1,2 @@
 // Theory only: what any walk that drops comes to.
+#![tactic(auto)]

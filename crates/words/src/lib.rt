@@ -1,4 +1,6 @@
 // The words in which an answer reaches C, and those of a search taken back.
+#![tactic(auto)]
+
 ghost use Rattle.std.specs.Prelude.{◌≡◌, true, ◌+◌, ◌≤◌, length};
 ghost use Rattle.print.specs.Puts.{Puts};
 ghost use Rattle.answer.specs.Lent.{laid, holding};

@@ -365,7 +365,7 @@ dropped c kinds r =
     let d : Measured = c.before in
     let e = entered d in
     let l = round e in
-    let f : d.row_of.result < 18446744073709551616 = omega (arith, d.row_of.type-inv) in
+    let f : d.row_of.result < 18446744073709551616 = omega (arith, d.row_of.type_inv) in
     let h : limit d < d.row_of.result = omega (arith, c.if4.false) in
     drops r _ _ (kept l kinds r) e.before.if1.taken (holding d r) (counted d) (up_known (best_at_lem l) d.before.limit-of.ensures (row_is d) f h) (up_far (best_at_lem l) d.before.limit-of.ensures (row_is d) f h)
 

@@ -9,32 +9,32 @@ use Rattle.plane.proofs.GapLaws.{gap_ranged}
 use Rattle.plane.proofs.apart_of.Statement.{statement}
 use Rattle.plane.proofs.apart_of.Tie as tie
 
-gap-of-requires : tie.Need-gap-of-requires
-gap-of-requires c κs = search rules
+gap_of-x-requires : tie.Need-gap_of-x-requires
+gap_of-x-requires c κs = search rules
 
-gap-of-requires-2 : tie.Need-gap-of-requires-2
-gap-of-requires-2 c κs = search rules
+gap_of-y-requires : tie.Need-gap_of-y-requires
+gap_of-y-requires c κs = search rules
 
 small : {s t : Span} {m : ℕ} → m ≡ gap s t → InRange s → InRange t → m * m ≤ 16000000000000
 small {s} {t} {m} e r w = square_le m 4000000 (omega (arith, gap_ranged s t r w))
 
-within : (c : tie.After-gap-of2) → let m = c.before.before.before.gap_of.result in
-    (m * m ≤ 16000000000000) × (c.gap-of2.result * c.gap-of2.result ≤ 16000000000000)
+within : (c : tie.After-gap_of-y) → let m = c.before.before.before.gap_of-x.result in
+    (m * m ≤ 16000000000000) × (c.gap_of-y.result * c.gap_of-y.result ≤ 16000000000000)
 within c =
     let p = c.before.before.before.before.before.before.requires in
-    (small c.before.before.before.gap_of.ensures p.0.x p.1.x, small c.gap-of2.ensures p.0.y p.1.y)
+    (small c.before.before.before.gap_of-x.ensures p.0.x p.1.x, small c.gap_of-y.ensures p.0.y p.1.y)
 
-mul-result : tie.Need-overflow_mul-result
-mul-result c = omega (arith, within c)
+overflow_mul-result : tie.Need-overflow_mul-result
+overflow_mul-result c = omega (arith, within c)
 
-mul-result-2 : tie.Need-overflow_mul-result-2
-mul-result-2 c = omega (arith, within c)
+overflow_mul-result-2 : tie.Need-overflow_mul-result-2
+overflow_mul-result-2 c = omega (arith, within c)
 
-add-result : tie.Need-overflow_add-result
-add-result c = omega (arith, within c)
+overflow_add-result : tie.Need-overflow_add-result
+overflow_add-result c = omega (arith, within c)
 
 returns : tie.Need-returns
-returns c = ap₂ (λ (m n : ℕ). square m + square n) c.before.before.before.gap_of.ensures c.gap-of2.ensures
+returns c = ap₂ (λ (m n : ℕ). square m + square n) c.before.before.before.gap_of-x.ensures c.gap_of-y.ensures
 
 pub apart_of_spec : {M : Type 1} → statement M
-apart_of_spec = tie.close (tie.spec gap-of-requires gap-of-requires-2 mul-result mul-result-2 add-result returns)
+apart_of_spec = tie.close (tie.spec gap_of-x-requires gap_of-y-requires overflow_mul-result overflow_mul-result-2 overflow_add-result returns)

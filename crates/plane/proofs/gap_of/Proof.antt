@@ -13,11 +13,11 @@ use Rattle.plane.proofs.SignedLaws.{fit, size}
 use Rattle.plane.proofs.gap_of.Statement.{statement}
 use Rattle.plane.proofs.gap_of.Tie as tie
 
-rise-of-requires : tie.Need-rise_of-requires
-rise-of-requires c κs = search rules
+rise_of-requires : tie.Need-rise_of-requires
+rise_of-requires c κs = search rules
 
-rise-of-requires-2 : tie.Need-rise_of-requires-2
-rise-of-requires-2 c κs = search rules
+rise_of-requires-2 : tie.Need-rise_of-requires-2
+rise_of-requires-2 c κs = search rules
 
 -- what `rise_of` answers on two fields, and how much that can be
 record Risen (a b : ℤ) (r : ℕ) : Type 0 where
@@ -32,16 +32,16 @@ said {a} {b} h k e =
     record { is = s; small = omega (arith, s, rise_is a b, size f, size g) }
 
 first : (c : tie.After-rise_of) → let v = c.before.before.before.args in Risen v.s.hi v.t.lo c.rise_of.result
-first c = said c.before.before.struct_told.given.1.0.1 c.before.struct-told2.given.0.1 c.rise_of.ensures
+first c = said c.before.before.struct_told-1.given.1.0.1 c.before.struct_told-2-1.given.0.1 c.rise_of.ensures
 
 second : (c : tie.After-rise_of-2) → let v = c.before.before.before.before.before.before.args in Risen v.t.hi v.s.lo c.rise_of-2.result
-second c = said c.before.before.struct-told3.given.1.0.1 c.before.struct-told4.given.0.1 c.rise_of-2.ensures
+second c = said c.before.before.struct_told-3-1.given.1.0.1 c.before.struct_told-4-1.given.0.1 c.rise_of-2.ensures
 
-add-result : tie.Need-overflow_add-result
-add-result c = omega (arith, (first c.before.before.before).small, (second c).small)
+overflow_add-result : tie.Need-overflow_add-result
+overflow_add-result c = omega (arith, (first c.before.before.before).small, (second c).small)
 
 returns : tie.Need-returns
 returns c = ap₂ (λ (m n : ℕ). m + n) (first c.before.before.before).is (second c).is
 
 pub gap_of_spec : {M : Type 1} → statement M
-gap_of_spec = tie.close (tie.spec rise-of-requires rise-of-requires-2 add-result returns)
+gap_of_spec = tie.close (tie.spec rise_of-requires rise_of-requires-2 overflow_add-result returns)

@@ -14,23 +14,23 @@ use Rattle.plane.proofs.is_off.Tie as tie
 said : {z : ℤ} {r : Bool} → SFits w32 z → r ≡ outside (to_z w32 (of_z w32 z)) → r ≡ outside z
 said f e = rw (to_z-of_z f) at e
 
-is-outside-requires : tie.Need-is_outside-requires
-is-outside-requires c κs = search rules
+is_outside-requires : tie.Need-is_outside-requires
+is_outside-requires c κs = search rules
 
-is-outside-requires-2 : tie.Need-is-outside-requires-2
-is-outside-requires-2 c κs = search rules
+is_outside-requires-else-is_outside : tie.Need-is_outside-requires-else-is_outside
+is_outside-requires-else-is_outside c κs = search rules
 
-returns : tie.Need-returns
-returns c =
+returns-then-is_outside : tie.Need-returns-then-is_outside
+returns-then-is_outside c =
     let s = c.before.before in
-    let e = said s.ranges.x c.before.is-outside.ensures in
-    e ∙ or_true (outside s.args.x) (outside s.args.y) (sym e ∙ c.if1.true)
+    let e = said s.ranges.x c.before.is_outside.ensures in
+    e ∙ or_true (outside s.args.x) (outside s.args.y) (sym e ∙ c.if-is_outside.true)
 
-returns-2 : tie.Need-returns-2
-returns-2 c =
+returns-else-is_outside : tie.Need-returns-else-is_outside
+returns-else-is_outside c =
     let s = c.before.before.before in
-    let e = said s.ranges.x c.before.before.is-outside.ensures in
-    said s.ranges.y c.is-outside2.ensures ∙ or_false (outside s.args.x) (outside s.args.y) (sym e ∙ c.before.if1.false)
+    let e = said s.ranges.x c.before.before.is_outside.ensures in
+    said s.ranges.y c.is_outside-else-is_outside.ensures ∙ or_false (outside s.args.x) (outside s.args.y) (sym e ∙ c.before.if-is_outside.false)
 
 pub is_off_spec : {M : Type 1} → statement M
-is_off_spec = tie.close (tie.spec is-outside-requires is-outside-requires-2 returns returns-2)
+is_off_spec = tie.close (tie.spec is_outside-requires is_outside-requires-else-is_outside returns-then-is_outside returns-else-is_outside)

@@ -3,17 +3,17 @@ use Rattle.plane.specs.Plane.{least}
 use Rattle.plane.proofs.lesser.Statement.{statement}
 use Rattle.plane.proofs.lesser.Tie as tie
 
-returns : tie.Need-returns
+returns-then-b-a : tie.Need-returns-then-b-a
 unfolding least
-returns c =
+returns-then-b-a c =
     let f = c.before.ranges in
-    rw (to_z-of_z f.b, (rw (to_z-of_z f.a, to_z-of_z f.b) at c.if1.true))
+    rw (to_z-of_z f.b, (rw (to_z-of_z f.a, to_z-of_z f.b) at c.if-b-a.true))
 
-returns-2 : tie.Need-returns-2
+returns-else-b-a : tie.Need-returns-else-b-a
 unfolding least
-returns-2 c =
+returns-else-b-a c =
     let f = c.before.ranges in
-    rw (to_z-of_z f.a, (rw (to_z-of_z f.a, to_z-of_z f.b) at c.if1.false))
+    rw (to_z-of_z f.a, (rw (to_z-of_z f.a, to_z-of_z f.b) at c.if-b-a.false))
 
 pub lesser_spec : {M : Type 1} → statement M
-lesser_spec = tie.close (tie.spec returns returns-2)
+lesser_spec = tie.close (tie.spec returns-then-b-a returns-else-b-a)

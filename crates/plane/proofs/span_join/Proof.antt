@@ -24,8 +24,8 @@ said f {a} {b} {r} h k l e = to_z-of_z (fit r l) ∙ (rw (to_z-of_z (fit a h), t
 returns : tie.Need-returns
 returns c =
     let d = c.before.before.before in
-    ap₂ span (said least d.before.before.struct_told.given.0.1 d.before.struct-told2.given.0.1 d.lesser.type-inv d.lesser.ensures)
-    (said greatest c.before.before.struct-told3.given.1.0.1 c.before.struct-told4.given.1.0.1 c.greater.type-inv c.greater.ensures)
+    ap₂ span (said least d.before.before.struct_told-1.given.0.1 d.before.struct_told-2-1.given.0.1 d.lesser.type_inv d.lesser.ensures)
+    (said greatest c.before.before.struct_told-3-1.given.1.0.1 c.before.struct_told-4-1.given.1.0.1 c.greater.type_inv c.greater.ensures)
 
 pub span_join_spec : {M : Type 1} → statement M
 span_join_spec = tie.close (tie.spec lesser-requires greater-requires returns)

@@ -13,47 +13,47 @@ use Rattle.plane.proofs.squared.Tie as tie
 said : {a b : ℤ} {r t : Bool} → SFits w32 a → SFits w32 b → r ≡ (outside (to_z w32 (of_z w32 a)) || outside (to_z w32 (of_z w32 b))) → r ≡ t → (outside a || outside b) ≡ t
 said f g e h = sym (rw (to_z-of_z f, to_z-of_z g) at e) ∙ h
 
-is-off-requires : tie.Need-is_off-requires
-is-off-requires c κs = search rules
+is_off-requires : tie.Need-is_off-requires
+is_off-requires c κs = search rules
 
-returns : tie.Need-returns
+returns-then-is_off : tie.Need-returns-then-is_off
 unfolding measured
-returns c =
+returns-then-is_off c =
     let f = c.before.before.ranges in
-    rw (said f.ax f.ay c.before.is_off.ensures c.if1.true)
+    rw (said f.ax f.ay c.before.is_off.ensures c.if-is_off.true)
 
-is-off-requires-2 : tie.Need-is_off-requires-2
-is-off-requires-2 c κs = search rules
+is_off-requires-2 : tie.Need-is_off-requires-2
+is_off-requires-2 c κs = search rules
 
 -- both points are in range
-in_range : (c : tie.Else2) → let v = c.before.before.before.before.args in
+in_range : (c : tie.Else-is_off-2) → let v = c.before.before.before.before.args in
     ((outside v.ax || outside v.ay) ≡ false) × ((outside v.bx || outside v.by) ≡ false)
 in_range c =
     let s = c.before.before.before in
     let f = s.before.ranges in
-    (said f.ax f.ay s.is-off.ensures c.before.before.if1.false, said f.bx f.by c.before.is-off2.ensures c.if2.false)
+    (said f.ax f.ay s.is_off.ensures c.before.before.if-is_off.false, said f.bx f.by c.before.is_off-2.ensures c.if-is_off-2.false)
 
-returns-2 : tie.Need-returns-2
+returns-then-is_off-2 : tie.Need-returns-then-is_off-2
 unfolding measured
-returns-2 c =
+returns-then-is_off-2 c =
     let s = c.before.before.before in
     let f = s.before.ranges in
     rw (
-      said f.ax f.ay s.is-off.ensures c.before.before.if1.false,
-      said f.bx f.by c.before.is-off2.ensures c.if2.true,
+      said f.ax f.ay s.is_off.ensures c.before.before.if-is_off.false,
+      said f.bx f.by c.before.is_off-2.ensures c.if-is_off-2.true,
     )
 
-squared-within-requires : tie.Need-squared_within-requires
-squared-within-requires c κs =
+squared_within-requires : tie.Need-squared_within-requires
+squared_within-requires c κs =
     let f = c.before.before.before.before.ranges in
     rw (to_z-of_z f.ax, to_z-of_z f.ay, to_z-of_z f.bx, to_z-of_z f.by) (in_range c)
 
-returns-3 : tie.Need-returns-3
+returns : tie.Need-returns
 unfolding measured
-returns-3 c =
+returns c =
     let f = c.before.before.before.before.before.ranges in
     rw ((in_range c.before).0, (in_range c.before).1)
-    (ap (answer 0 0) (rw (to_z-of_z f.ax, to_z-of_z f.ay, to_z-of_z f.bx, to_z-of_z f.by) at c.squared-within.ensures))
+    (ap (answer 0 0) (rw (to_z-of_z f.ax, to_z-of_z f.ay, to_z-of_z f.bx, to_z-of_z f.by) at c.squared_within.ensures))
 
 pub squared_spec : {M : Type 1} → statement M
-squared_spec = tie.close (tie.spec is-off-requires returns is-off-requires-2 returns-2 squared-within-requires returns-3)
+squared_spec = tie.close (tie.spec is_off-requires returns-then-is_off is_off-requires-2 returns-then-is_off-2 squared_within-requires returns)

@@ -31,8 +31,8 @@ axis-requires c κs = asked c.ranges.ax c.ranges.bx (in_x c)
 axis-requires-2 : tie.Need-axis-requires-2
 axis-requires-2 c κs = asked c.before.ranges.ay c.before.ranges.by (in_y c.before)
 
-add-result : tie.Need-overflow_add-result
-add-result c =
+overflow_add-result : tie.Need-overflow_add-result
+overflow_add-result c =
     let s = c.before.before in
     let v = s.args in
     omega (
@@ -56,4 +56,4 @@ returns c =
     )
 
 pub squared_within_spec : {M : Type 1} → statement M
-squared_within_spec = tie.close (tie.spec axis-requires axis-requires-2 add-result returns)
+squared_within_spec = tie.close (tie.spec axis-requires axis-requires-2 overflow_add-result returns)

@@ -23,38 +23,38 @@ past : (family_of 0 ≡ NoRefusal) × (family_of 3 ≡ NoRefusal) × (family_of 
 unfolding family_in
 past = (refl, refl, refl, refl, refl, refl, refl)
 
-returns : tie.Need-returns
-returns c = from 41 41 tt begins.4 (omega arith)
+returns-in-41 : tie.Need-returns-in-41
+returns-in-41 c = from 41 41 tt begins.4 (omega arith)
 
-returns-2 : tie.Need-returns-2
-returns-2 c = from 1 2 tt begins.0 (omega arith)
+returns-in-1-to-2 : tie.Need-returns-in-1-to-2
+returns-in-1-to-2 c = from 1 2 tt begins.0 (omega arith)
 
-returns-3 : tie.Need-returns-3
-returns-3 c = from 11 12 tt begins.1 (omega arith)
+returns-in-11-to-12 : tie.Need-returns-in-11-to-12
+returns-in-11-to-12 c = from 11 12 tt begins.1 (omega arith)
 
-returns-4 : tie.Need-returns-4
-returns-4 c = from 21 26 tt begins.2 (omega arith)
+returns-in-21-to-26 : tie.Need-returns-in-21-to-26
+returns-in-21-to-26 c = from 21 26 tt begins.2 (omega arith)
 
-returns-5 : tie.Need-returns-5
-returns-5 c = from 31 33 tt begins.3 (omega arith)
+returns-in-31-to-33 : tie.Need-returns-in-31-to-33
+returns-in-31-to-33 c = from 31 33 tt begins.3 (omega arith)
 
-returns-6 : tie.Need-returns-6
-returns-6 c = from 51 53 tt begins.5 (omega arith)
+returns-in-51-to-53 : tie.Need-returns-in-51-to-53
+returns-in-51-to-53 c = from 51 53 tt begins.5 (omega arith)
 
-returns-7 : tie.Need-returns-7
-returns-7 c = from 54 55 tt begins.6 (omega arith)
+returns-in-54-to-55 : tie.Need-returns-in-54-to-55
+returns-in-54-to-55 c = from 54 55 tt begins.6 (omega arith)
 
-returns-8 : tie.Need-returns-8
-returns-8 c = from 0 0 tt past.0 (omega arith)
+returns-in_default : tie.Need-returns-in_default
+returns-in_default c = from 0 0 tt past.0 (omega arith)
 
-returns-9 : tie.Need-returns-9
-returns-9 c = from 3 10 tt past.1 (omega arith)
+returns-in_default-2 : tie.Need-returns-in_default-2
+returns-in_default-2 c = from 3 10 tt past.1 (omega arith)
 
-returns-10 : tie.Need-returns-10
-returns-10 c = from 13 20 tt past.2 (omega arith)
+returns-in_default-3 : tie.Need-returns-in_default-3
+returns-in_default-3 c = from 13 20 tt past.2 (omega arith)
 
-returns-11 : tie.Need-returns-11
-returns-11 c = from 27 30 tt past.3 (omega arith)
+returns-in_default-4 : tie.Need-returns-in_default-4
+returns-in_default-4 c = from 27 30 tt past.3 (omega arith)
 
 -- both sides of 41
 around : {n : ℕ} → (34 ≤ n) × (n ≤ 50) → (n ≡ 41 → ⊥) → NoRefusal ≡ family_of n
@@ -64,26 +64,26 @@ around {n} h k = go (dec_le n 40)
     go (yes l) = from 34 40 tt past.4 (omega arith)
     go (no l) = from 42 50 tt past.5 (omega arith)
 
-returns-12 : tie.Need-returns-12
-returns-12 c = around (omega arith) (λ e. omega arith)
+returns-in_default-5 : tie.Need-returns-in_default-5
+returns-in_default-5 c = around (omega arith) (λ e. omega arith)
 
-returns-13 : tie.Need-returns-13
-returns-13 c = from 56 255 tt past.6 (omega arith)
+returns-in_default-6 : tie.Need-returns-in_default-6
+returns-in_default-6 c = from 56 255 tt past.6 (omega arith)
 
 pub family_spec : {M : Type 1} → statement M
 family_spec =
     tie.close
     (tie.spec
-    returns
-    returns-2
-    returns-3
-    returns-4
-    returns-5
-    returns-6
-    returns-7
-    returns-8
-    returns-9
-    returns-10
-    returns-11
-    returns-12
-    returns-13)
+    returns-in-41
+    returns-in-1-to-2
+    returns-in-11-to-12
+    returns-in-21-to-26
+    returns-in-31-to-33
+    returns-in-51-to-53
+    returns-in-54-to-55
+    returns-in_default
+    returns-in_default-2
+    returns-in_default-3
+    returns-in_default-4
+    returns-in_default-5
+    returns-in_default-6)

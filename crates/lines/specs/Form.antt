@@ -2,7 +2,7 @@
 -- Assumes nothing.
 use Rattle.std.specs.Prelude.{ℕ, ◌^◌, ◌≤◌, ◌<◌, ◌≡◌, refl, ℤ, nat_abs}
 use Rattle.std.proofs.Common.{ap₂}
-use Rattle.std.proofs.Math.Logic.{Dec·and}
+use Rattle.std.proofs.Math.Logic.Dec
 use mathlib.Core.List.{List, [], ◌∷◌, nil≢cons, cons≢nil, head-eq_of_cons-eq, tail-eq_of_cons-eq}
 use Rattle.std.proofs.Math.Decide.{dec_le, dec_lt, ℕ_discrete}
 use Rattle.lines.specs.Text.{decimal, signed, hex, value_from, signed_value}
@@ -31,8 +31,8 @@ abbrev pub InForm : {A : Type 0} → Form A → List ℕ → Type 0
 InForm f t = f.Fits (f.value t) × (f.text (f.value t) ≡ t)
 
 unfoldable pub in_form : {A : Type 0} (f : Form A) (t : List ℕ) → Dec (InForm f t)
-unfolding Dec·and
-in_form f t = Dec·and (f.fits (f.value t)) (same (f.text (f.value t)) t)
+unfolding Dec.and
+in_form f t = Dec.and (f.fits (f.value t)) (same (f.text (f.value t)) t)
 
 -- one fixed word
 abbrev pub word : List ℕ → Form (Unit {0})

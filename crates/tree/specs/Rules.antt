@@ -2,7 +2,7 @@
 -- Assumes nothing.
 use Rattle.std.specs.Prelude.{◌≡◌, List, [], ◌∷◌, ◌++◌, ◌↔◌, ℕ, suc, ◌+◌, ◌-◌, ◌≤◌, ◌<◌, ℤ, pos, negsuc, length}
 use Rattle.std.proofs.Common.{sym, ap, ap₂, lit≤}
-use Rattle.std.proofs.Math.Logic.{Dec·and, Dec·not}
+use Rattle.std.proofs.Math.Logic.Dec
 use Rattle.std.proofs.Math.Decide.{dec_le, dec_lt, ℕ_discrete}
 use Rattle.std.specs.Int.Bits.{bit_or}
 use Rattle.std.proofs.Math.IntN.{pos-ne-negsuc}
@@ -80,7 +80,7 @@ Kitted t kits s n = kit_of t kits (node n) ≡ joined_run bit_or (kit_of t kits)
 
 -- Decisions: their types say all.
 unfoldable pub dec_room : (nodes listed : ℕ) (l : Lengths) → Dec (Room nodes listed l)
-unfolding Dec·and dec_le
+unfolding Dec.and dec_le
 dec_room nodes listed l =
     dec_by (λ w. record {
       level = w.0;
@@ -94,31 +94,31 @@ dec_room nodes listed l =
       kits = w.1.1.1.1.1.1.1.1;
     })
     (λ h. (h.level, (h.start, (h.count, (h.entries, (h.x_lo, (h.x_hi, (h.y_lo, (h.y_hi, h.kits)))))))))
-    (Dec·and (dec_le _ _)
-    (Dec·and (dec_le _ _) (Dec·and (dec_le _ _) (Dec·and (dec_le _ _) (Dec·and (dec_le _ _) (Dec·and (dec_le _ _) (Dec·and (dec_le _ _) (Dec·and (dec_le _ _) (dec_le _ _)))))))))
+    (Dec.and (dec_le _ _)
+    (Dec.and (dec_le _ _) (Dec.and (dec_le _ _) (Dec.and (dec_le _ _) (Dec.and (dec_le _ _) (Dec.and (dec_le _ _) (Dec.and (dec_le _ _) (Dec.and (dec_le _ _) (dec_le _ _)))))))))
 
 unfoldable pub dec_counted : (p nodes listed : ℕ) (l : Lengths) → Dec (Counted p nodes listed l)
-unfolding Dec·and ℕ_discrete dec_le dec_room
+unfolding Dec.and ℕ_discrete dec_le dec_room
 dec_counted p nodes listed l =
     dec_by (λ w. record { empty = w.0; few = w.1.0; all = w.1.1.0; room = w.1.1.1 }) (λ c. (c.empty, (c.few, (c.all, c.room))))
-    (Dec·and (Dec·and (dec_implies (ℕ_discrete _ _) (ℕ_discrete _ _)) (dec_implies (ℕ_discrete _ _) (ℕ_discrete _ _)))
-    (Dec·and (dec_le _ _) (Dec·and (ℕ_discrete _ _) (dec_room _ _ _))))
+    (Dec.and (Dec.and (dec_implies (ℕ_discrete _ _) (ℕ_discrete _ _)) (dec_implies (ℕ_discrete _ _) (ℕ_discrete _ _)))
+    (Dec.and (dec_le _ _) (Dec.and (ℕ_discrete _ _) (dec_room _ _ _))))
 
 unfoldable pub dec_shaped : (s : Shape) (n : ℕ) → Dec (Shaped s n)
-unfolding Dec·and ℕ_discrete dec_le
+unfolding Dec.and ℕ_discrete dec_le
 dec_shaped s n =
     dec_by (λ w. record { level_low = w.0; level_high = w.1.0; count_low = w.1.1.0; count_high = w.1.1.1.0; starts = w.1.1.1.1 })
     (λ h. (h.level_low, (h.level_high, (h.count_low, (h.count_high, h.starts)))))
-    (Dec·and (dec_le _ _) (Dec·and (dec_le _ _) (Dec·and (dec_le _ _) (Dec·and (dec_le _ _) (ℕ_discrete _ _)))))
+    (Dec.and (dec_le _ _) (Dec.and (dec_le _ _) (Dec.and (dec_le _ _) (Dec.and (dec_le _ _) (ℕ_discrete _ _)))))
 
 unfoldable pub dec_may_name : (p : ℕ) (s : Shape) (l : ℕ) (x : Thing) → Dec (MayName p s l x)
-unfolding Dec·and ℕ_discrete dec_le dec_lt
+unfolding Dec.and ℕ_discrete dec_le dec_lt
 dec_may_name p s l (place q) = dec_lt q p
-dec_may_name p s l (node n) = Dec·and (dec_le 1 n) (Dec·and (dec_lt n s.nodes) (ℕ_discrete _ _))
+dec_may_name p s l (node n) = Dec.and (dec_le 1 n) (Dec.and (dec_lt n s.nodes) (ℕ_discrete _ _))
 
 unfoldable pub dec_new : (s : Shape) (i : ℕ) → Dec (New s i)
-unfolding dec_all Dec·not ℕ_discrete
-dec_new s i = dec_all (λ j. Dec·not (Thing-discrete ℕ_discrete (named s j) (named s i))) i
+unfolding dec_all Dec.not ℕ_discrete
+dec_new s i = dec_all (λ j. Dec.not (Thing-discrete ℕ_discrete (named s j) (named s i))) i
 
 unfoldable pub decZ : (a b : ℤ) → Dec (a ≡ b)
 unfolding ℕ_discrete
@@ -128,12 +128,12 @@ decZ (negsuc a) (pos b) = no (λ e. pos-ne-negsuc b a (sym e))
 decZ (negsuc a) (negsuc b) = dec_by (λ (e : a ≡ b). ap negsuc e) (λ (e : negsuc a ≡ negsuc b). cc) (ℕ_discrete a b)
 
 unfoldable pub dec_span : (s t : Span) → Dec (s ≡ t)
-unfolding Dec·and decZ
-dec_span s t = dec_by (λ w. ap₂ (λ (l h : ℤ). record { lo = l; hi = h }) w.0 w.1) (λ e. (ap (λ (u : Span). u.lo) e, ap (λ (u : Span). u.hi) e)) (Dec·and (decZ _ _) (decZ _ _))
+unfolding Dec.and decZ
+dec_span s t = dec_by (λ w. ap₂ (λ (l h : ℤ). record { lo = l; hi = h }) w.0 w.1) (λ e. (ap (λ (u : Span). u.lo) e, ap (λ (u : Span). u.hi) e)) (Dec.and (decZ _ _) (decZ _ _))
 
 unfoldable pub dec_box : (b c : Box) → Dec (b ≡ c)
-unfolding Dec·and dec_span
-dec_box b c = dec_by (λ w. ap₂ (λ (x y : Span). record { x = x; y = y }) w.0 w.1) (λ e. (ap (λ (a : Box). a.x) e, ap (λ (a : Box). a.y) e)) (Dec·and (dec_span _ _) (dec_span _ _))
+unfolding Dec.and dec_span
+dec_box b c = dec_by (λ w. ap₂ (λ (x y : Span). record { x = x; y = y }) w.0 w.1) (λ e. (ap (λ (a : Box). a.x) e, ap (λ (a : Box). a.y) e)) (Dec.and (dec_span _ _) (dec_span _ _))
 
 -- The rules, each with the places at which it is looked at.
 abbrev pub rule21 : ℕ → ℕ → ℕ → Lengths → Rule

@@ -1,6 +1,6 @@
 -- Where a walk stands when it stops, all at once and step by step.
 -- Assumes nothing.
-use mathlib.Core.Path.{◌≡◌, refl, ap}
+use mathlib.Core.Path.{◌≡◌, refl, ap, sym, subst, ◌∙◌}
 use mathlib.Core.Bool.{true, false, false≢true}
 use mathlib.Core.List.{List, [], ◌∷◌}
 use mathlib.Core.Logic.{◌↔◌}
@@ -65,7 +65,8 @@ module _ {K : Type 0} where
       rw (beyond 0 (e ∷ w) k (omega arith), step, le-ltb n (n + 0) (omega arith), stays (n + 0) w n k) (ap (λ i. stand i true k) (omega arith))
   from (suc a) n (e ∷ w) k =
       let same : n + suc a ≡ n + 1 + a = omega arith in
-      rw (step, lt-ltb n (n + suc a) (omega arith), same, ← one_more a n e w k) (from a (n + 1) w e)
+      rw (step, lt-ltb n (n + suc a) (omega arith))
+      (subst (λ (b : ℕ). advance b w (stand (n + 1) false e) ≡ later n (stopped (suc a) (e ∷ w) k)) (sym same) (from a (n + 1) w e ∙ one_more a n e w k))
 
   -- step by step is all at once
   pub advances : (a : ℕ) (w : List K) (k : K) → advance a w (stand 0 false k) ≡ stopped a w k

@@ -479,7 +479,7 @@ module _ (t : ℕ) where
       let o = opened (round e) in
       let s = begin (first o) in
       let r = ready o in
-      c.box_of.ensures s.args.kit.now ∙ ap (box_of (places s) (over_tree s).sides) (ap (thing o.open_at.result.leaf) c.before.wide16.ensures ∙ is_entry r.passes r.opens (round e).loop.k e.before.if2.taken)
+      c.box_of.ensures s.args.kit.now ∙ ap (box_of (places s) (over_tree s).sides) (ap (thing o.open_at.result.leaf) c.before.wide16.ensures ∙ is_entry r.passes r.opens (round e).loop.k e.before.if2.true)
 
   -- the sides in the columns, of which that of the replaced member may be another's
   abbrev sides_at_lem : Loop → Sides
@@ -491,7 +491,7 @@ module _ (t : ℕ) where
       let e : Entry = at (shown b) in
       let d = first (opened (round e)) in
       let r = ready (opened (round e)) in
-      ((few d, inside d), ((round e).loop.inv.1.1.1, subst Ranged (sym (is_box b)) (ranged r.passes (y e) (real r.passes r.opens (round e).loop.k e.before.if2.taken))))
+      ((few d, inside d), ((round e).loop.inv.1.1.1, subst Ranged (sym (is_box b)) (ranged r.passes (y e) (real r.passes r.opens (round e).loop.k e.before.if2.true))))
 
   abbrev best_at_lem : Loop → Best
   best_at_lem l = best_at l.loop.known l.loop.squared l.loop.places
@@ -634,7 +634,7 @@ module _ (t : ℕ) where
 
   -- one entry less is left
   fewer : (e : Entry) → let o = opened (round e) in o.open_at.result.many - ((round e).loop.k + 1) < o.open_at.result.many - (round e).loop.k
-  fewer e = omega (arith, e.before.if2.taken)
+  fewer e = omega (arith, e.before.if2.true)
 
   -- ---- where groups come of it: its columns are put in
 
@@ -710,7 +710,7 @@ module _ (t : ℕ) where
       let s = begin (first o) in
       let l = round (entered d) in
       let r = ready o in
-      let b = (entered d).before.if2.taken in
+      let b = (entered d).before.if2.true in
       let new = set l.loop.names (top_of d) (number_read d) in
       let box = put (sides_at_lem l) (top_of d) (box_read d) in
       let ranged-next = boxes_ranged r.passes (wanted s) s.args.m (came d) (next_long r l.loop.k b) (next_fair r l.loop.k b) in
@@ -844,7 +844,7 @@ module _ (t : ℕ) where
       let e = at (shown (boxed d)) in
       let l = round e in
       let beyond = far_so (best_at_lem l) (far d) (sym (near_is d) ∙ c.if5.false) in
-      (drops (ready (opened l)) _ _ l.loop.inv.0 e.before.if2.taken (holding d) (counted d) beyond.0 beyond.1, l.loop.inv.1)
+      (drops (ready (opened l)) _ _ l.loop.inv.0 e.before.if2.true (holding d) (counted d) beyond.0 beyond.1, l.loop.inv.1)
 
   loop-less-4 : lts.Need-loop-smaller-4 (claims t) (descend_at t) descend.Post invariant-loop decreases-loop
   loop-less-4 c = search rules

@@ -161,7 +161,7 @@ loop-again c =
     let x = c.before.before.struct-told2.given in
     let y = c.struct-told4.given in
     rw (to_z-of_z (fit r.x.lo x.0.1), to_z-of_z (fit r.x.hi x.1.0.1), to_z-of_z (fit r.y.lo y.0.1), to_z-of_z (fit r.y.hi y.1.0.1))
-    (value_more v r k.run-kit.result d.loop-test.taken e f)
+    (value_more v r k.run-kit.result d.loop-test.true e f)
 
 same_length : tie.Need-same-length invariant-loop decreases-loop
 same_length c = c.before.loop.invariant.x_lo.same

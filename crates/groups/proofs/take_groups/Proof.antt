@@ -196,7 +196,7 @@ is_thing c =
     let e = at c in
     let o = opened (round e) in
     let r = can o in
-    ap place c.wide16.ensures ∙ is_place r.passes r.opens (round e).loop.k e.before.if1.taken (leaf_so o)
+    ap place c.wide16.ensures ∙ is_place r.passes r.opens (round e).loop.k e.before.if1.true (leaf_so o)
 
 -- where its columns are read
 read_at : (c : Read) → Reads (can (opened (round (at c)))).passes true c.wide16.result
@@ -204,7 +204,7 @@ read_at c =
     let e = at c in
     let o = opened (round e) in
     let r = can o in
-    subst (λ (n : ℕ). Reads r.passes true n) (sym c.wide16.ensures) (subst (λ (u : Bool). Reads r.passes u (number_read e)) (leaf_so o) (reads r.passes r.opens (round e).loop.k e.before.if1.taken))
+    subst (λ (n : ℕ). Reads r.passes true n) (sym c.wide16.ensures) (subst (λ (u : Bool). Reads r.passes u (number_read e)) (leaf_so o) (reads r.passes r.opens (round e).loop.k e.before.if1.true))
 
 mul_holds : tie.Need-overflow-mul-holds invariant-loop decreases-loop
 mul_holds c = omega (arith, (read_at c).small)
@@ -235,7 +235,7 @@ returns c =
     let e = at (read a) in
     let l = round e in
     let r = can (opened l) in
-    ended (opened l) _ (spends r _ _ (l.loop.inv.0 _ r) e.before.if1.taken (sym (held a r) ∙ c.before.before.before.if2.true) (c.before.take_step.ensures.none (not-true _ c.if3.true)))
+    ended (opened l) _ (spends r _ _ (l.loop.inv.0 _ r) e.before.if1.true (sym (held a r) ∙ c.before.before.before.if2.true) (c.before.take_step.ensures.none (not-true _ c.if3.true)))
 
 box-at-requires : tie.Need-box-at-requires invariant-loop decreases-loop
 box-at-requires c κs =
@@ -264,7 +264,7 @@ row-of-requires c κs =
     let o = opened (round e) in
     let s = begin o in
     let r = can o in
-    ((few s, top_in s), (ranged_boxes o, subst Ranged (sym (is_box b)) (ranged r.passes (y e) (real r.passes r.opens (round e).loop.k e.before.if1.taken))))
+    ((few s, top_in s), (ranged_boxes o, subst Ranged (sym (is_box b)) (ranged r.passes (y e) (real r.passes r.opens (round e).loop.k e.before.if1.true))))
 
 abbrev entered : Measured → Entry
 entered c = at (read (asked (boxed c)))
@@ -312,7 +312,7 @@ offer-requires c κs =
 
 -- one entry less is left
 fewer : (e : Entry) → let o = opened (round e) in o.open_at.result.many - ((round e).loop.k + 1) < o.open_at.result.many - (round e).loop.k
-fewer e = omega (arith, e.before.if1.taken)
+fewer e = omega (arith, e.before.if1.true)
 
 loop-less : tie.Need-loop-smaller invariant-loop decreases-loop
 loop-less c = fewer (entered c.before.before.before.before.before.before.before)
@@ -325,7 +325,7 @@ group_of_lem c r =
     let o = opened (round e) in
     let s = begin o in
     ap (λ (i : ℕ). take s.args.m (set s.args.numbers.now i (number_read e))) (sym (top_so o))
-    ∙ next_numbers r (round e).loop.k e.before.if1.taken s.args.numbers.now (numbers_of (levels_at s.args.m s.args.top 1) s.args.numbers.now (ends s) s.args.m s.pre.1.1.1)
+    ∙ next_numbers r (round e).loop.k e.before.if1.true s.args.numbers.now (numbers_of (levels_at s.args.m s.args.top 1) s.args.numbers.now (ends s) s.args.m s.pre.1.1.1)
 
 rest_so : (c : tie.After-rest-of invariant-loop decreases-loop) → let o = opened (round (entered c.before.before)) in let s = begin o in c.rest_of.result ≡ spread (without o.open_at.result.top (boxes_of (take s.args.m (cand s))))
 rest_so c =
@@ -337,7 +337,7 @@ wide : (c : tie.After-larger invariant-loop decreases-loop) {kinds : List ℕ} �
 wide c r =
     let d : Measured = c.before.before.before in
     let e = entered d in
-    c.larger.ensures ∙ ap₂ max (rest_so c.before) ((row_is d).near (omega (arith, c.before.before.if4.true))) ∙ sym (next_made r (round e).loop.k e.before.if1.taken)
+    c.larger.ensures ∙ ap₂ max (rest_so c.before) ((row_is d).near (omega (arith, c.before.before.if4.true))) ∙ sym (next_made r (round e).loop.k e.before.if1.true)
 
 -- it is learnt
 learnt : (c : tie.After-offer invariant-loop decreases-loop) →
@@ -350,7 +350,7 @@ learnt c kinds r =
     let e = entered d in
     let l = round e in
     let s = begin (opened l) in
-    learns r _ _ (kept l kinds r) e.before.if1.taken (holding d r) (counted d) (up_near (best_at_lem l) d.before.limit-of.ensures (row_is d) (omega (arith, c.before.before.before.before.before.before.if4.true))) (last (opened l) r) (group_of_lem d r)
+    learns r _ _ (kept l kinds r) e.before.if1.true (holding d r) (counted d) (up_near (best_at_lem l) d.before.limit-of.ensures (row_is d) (omega (arith, c.before.before.before.before.before.before.if4.true))) (last (opened l) r) (group_of_lem d r)
     (group_long s.args.m s.args.numbers.now s.args.top (number_read e) s.pre.1.1.1 (few s))
     (wide c.before.before.before.before r) c.offer.ensures
 
@@ -367,7 +367,7 @@ dropped c kinds r =
     let l = round e in
     let f : d.row_of.result < 18446744073709551616 = omega (arith, d.row_of.type_inv) in
     let h : limit d < d.row_of.result = omega (arith, c.if4.false) in
-    drops r _ _ (kept l kinds r) e.before.if1.taken (holding d r) (counted d) (up_known (best_at_lem l) d.before.limit-of.ensures (row_is d) f h) (up_far (best_at_lem l) d.before.limit-of.ensures (row_is d) f h)
+    drops r _ _ (kept l kinds r) e.before.if1.true (holding d r) (counted d) (up_known (best_at_lem l) d.before.limit-of.ensures (row_is d) f h) (up_far (best_at_lem l) d.before.limit-of.ensures (row_is d) f h)
 
 loop-again-2 : tie.Need-loop-preserved-2 invariant-loop decreases-loop
 loop-again-2 c = (dropped c, (round (entered c.before)).loop.inv.1)
@@ -380,7 +380,7 @@ skipped c kinds r =
     let a : Asked = c.before in
     let e = at (read a) in
     let l = round e in
-    skips r _ _ (kept l kinds r) e.before.if1.taken (sym (held a r) ∙ c.if2.false)
+    skips r _ _ (kept l kinds r) e.before.if1.true (sym (held a r) ∙ c.if2.false)
 
 loop-again-3 : tie.Need-loop-preserved-3 invariant-loop decreases-loop
 loop-again-3 c = (skipped c, (round (at (read c.before))).loop.inv.1)

@@ -100,7 +100,7 @@ returns : tie.Need-returns invariant-loop decreases-loop invariant-search decrea
 returns c =
     let t = c.before.before in
     ⊎_elim (λ w. absurd (omega arith))
-    (λ w. repeated (runs t) t.search.invariant w.0.taken w.3.inv w.4.taken (w.6.taken, beq_true _ _ w.8.taken))
+    (λ w. repeated (runs t) t.search.invariant w.0.true w.3.inv w.4.true (w.6.true, beq_true _ _ w.8.true))
     c.before.search-test.branch
 
 returns-2 : tie.Need-returns-2 invariant-loop decreases-loop invariant-search decreases-search

@@ -103,7 +103,7 @@ loop-again c =
     let g : SFits w32 r.y = record { sfits = c.struct-told2.given.1.1.1.1.0.1 } in (
       _,
       (
-        passed_more place_part 4 place_lines _ _ _ 3 _ _ _ l.inv.1.0 t.before.loop-test.taken p _ w.1 w.0,
+        passed_more place_part 4 place_lines _ _ _ 3 _ _ _ l.inv.1.0 t.before.loop-test.true p _ w.1 w.0,
         record {
           x = column_more x_of _ _ _ _ n k.x p _ (pos 0) (to_z-of_z f) (room t.before).0;
           y = column_more y_of _ _ _ _ n k.y p _ (pos 0) (to_z-of_z g) (room t.before).1.0;

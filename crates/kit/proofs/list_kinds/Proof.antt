@@ -63,8 +63,8 @@ loop-count-preserved c =
     let s = c.before.before.before.before in
     let w = s.args.want in (
       omega (arith, below c.before),
-      ⊎_elim (λ t. met t.1 t.2 (more (next (record { before = c.before; if-want-k-eq1 = t.0 })) s.requires))
-          (λ t. met t.1 t.2 (refilled (from_next w l.k (below c.before) ∙ keep_is w l.k _ (ne_eqb _ _ t.0.false)) l.invariant.1))
+      ⊎_elim (λ t. met t.kinds-is t.count-is (more (next (record { before = c.before; if-want-k-eq1 = t.if-want-k-eq1 })) s.requires))
+          (λ t. met t.kinds-is t.count-is (refilled (from_next w l.k (below c.before) ∙ keep_is w l.k _ (ne_eqb _ _ t.if-want-k-eq1.false)) l.invariant.1))
           c.if-want-k-eq1.branch-raw,
     )
 

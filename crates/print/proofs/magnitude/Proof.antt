@@ -14,26 +14,26 @@ use Rattle.print.proofs.magnitude.Tie as tie
 nought : SFits w32 (pos 0)
 nought = fit (pos 0) (omega arith)
 
-cast-result : tie.Need-overflow-cast-result
-cast-result c = rw (to_z-of_z c.before.ranges.z) (wide c.before.ranges.z)
+overflow_cast-result : tie.Need-overflow_cast-result
+overflow_cast-result c = rw (to_z-of_z c.before.ranges.z) (wide c.before.ranges.z)
 
-sub-result : tie.Need-overflow-sub-result
-sub-result c = rw (widened c.before.ranges.z) (diff_fits nought c.before.ranges.z)
+overflow_sub-result : tie.Need-overflow_sub-result
+overflow_sub-result c = rw (widened c.before.ranges.z) (diff_fits nought c.before.ranges.z)
 
-cast-result-2 : tie.Need-overflow-cast-result-2
-cast-result-2 c =
+overflow_cast-result-then-z-lt0 : tie.Need-overflow_cast-result-then-z-lt0
+overflow_cast-result-then-z-lt0 c =
     let f = c.before.ranges.z in
-    rw (widened f, to_z-of_z (diff_fits nought f)) (diff_cast nought f (omega (arith, below f c.if1.true)))
+    rw (widened f, to_z-of_z (diff_fits nought f)) (diff_cast nought f (omega (arith, below f c.if-z-lt0.true)))
 
-cast-result-3 : tie.Need-overflow-cast-result-3
-cast-result-3 c =
+overflow_cast-result-else-z-lt0 : tie.Need-overflow_cast-result-else-z-lt0
+overflow_cast-result-else-z-lt0 c =
     let f = c.before.ranges.z in
-    rw (to_z-of_z f) (plain_cast f (above f c.if1.false))
+    rw (to_z-of_z f) (plain_cast f (above f c.if-z-lt0.false))
 
-returns : tie.Need-returns
-returns c =
+returns-then-z-lt0 : tie.Need-returns-then-z-lt0
+returns-then-z-lt0 c =
     let f = c.before.ranges.z in
-    rw (widened f, to_z-of_z (diff_fits nought f)) (turned c.before.args.z (below f c.if1.true))
+    rw (widened f, to_z-of_z (diff_fits nought f)) (turned c.before.args.z (below f c.if-z-lt0.true))
 
 pub magnitude_spec : {M : Type 1} → statement M
-magnitude_spec = tie.close (tie.spec cast-result sub-result cast-result-2 cast-result-3 returns (λ c. search rules))
+magnitude_spec = tie.close (tie.spec overflow_cast-result overflow_sub-result overflow_cast-result-then-z-lt0 overflow_cast-result-else-z-lt0 returns-then-z-lt0 (λ c. search rules))

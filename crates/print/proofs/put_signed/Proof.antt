@@ -13,48 +13,48 @@ use Rattle.print.proofs.put_signed.Statement.{statement}
 use Rattle.print.proofs.put_signed.Tie as tie
 
 abbrev Room : tie.Start → List ℕ → Type 0
-Room s t = s.args.at + length t ≤ length s.args.out.now
+Room s t = s.args.at + length t ≤ length s.args.out-1.now
 
-minus : (c : tie.Then1) → let z = c.before.before.args.z in signed z ≡ (45 ∷ []) ++ decimal (nat_abs z)
-minus c = let s = c.before.before in signed_below s.args.z (below s.ranges.z c.if1.true)
+minus : (c : tie.Then-z-lt0) → let z = c.before.before.args.z in signed z ≡ (45 ∷ []) ++ decimal (nat_abs z)
+minus c = let s = c.before.before in signed_below s.args.z (below s.ranges.z c.if-z-lt0.true)
 
-with_minus : (c : tie.Then1) → let s = c.before.before in Room s ((45 ∷ []) ++ decimal (nat_abs s.args.z))
+with_minus : (c : tie.Then-z-lt0) → let s = c.before.before in Room s ((45 ∷ []) ++ decimal (nat_abs s.args.z))
 with_minus c = let s = c.before.before in subst (Room s) (minus c) s.requires
 
-put-requires : tie.Need-put-requires
-put-requires c κs =
+put-a-requires : tie.Need-put-a-requires
+put-a-requires c κs =
     let t = c.before.before in
     room_first (45 ∷ []) (decimal (nat_abs t.before.before.args.z)) _ _ (with_minus t)
 
-put-decimal-requires : tie.Need-put-decimal-requires
-put-decimal-requires c κs =
+put_decimal-requires : tie.Need-put_decimal-requires
+put_decimal-requires c κs =
     let p = c.before.before.before.before in
     let t = p.before.before.before in
     let e = passed t.before.before.ranges.z c.magnitude.ensures in
-    subst (λ (m : ℕ). p.put.result + length (decimal m) ≤ length p.put.new.0) (sym e) (room_after (decimal (nat_abs t.before.before.args.z)) (with_minus t) p.put.ensures)
+    subst (λ (m : ℕ). p.put-a.result + length (decimal m) ≤ length p.put-a.new.0) (sym e) (room_after (decimal (nat_abs t.before.before.args.z)) (with_minus t) p.put-a.ensures)
 
-returns : tie.Need-returns
-returns c =
+returns-then-z-lt0 : tie.Need-returns-then-z-lt0
+returns-then-z-lt0 c =
     let m = c.before.before.before in
     let p = m.before.before.before.before in
     let t = p.before.before.before in
     let e = ap decimal (passed t.before.before.ranges.z m.magnitude.ensures) in
-    puts_text (sym (minus t)) (puts_then _ (with_minus t) p.put.ensures (puts_text e c.before.before.put-decimal.ensures))
+    puts_text (sym (minus t)) (puts_then _ (with_minus t) p.put-a.ensures (puts_text e c.before.before.put_decimal.ensures))
 
-plain : (c : tie.Else1) (m : ℕ) → m ≡ nat_abs c.before.before.args.z → signed c.before.before.args.z ≡ decimal m
-plain c m e = let s = c.before.before in rw e (signed_above s.args.z (above s.ranges.z c.if1.false))
+plain : (c : tie.Else-z-lt0) (m : ℕ) → m ≡ nat_abs c.before.before.args.z → signed c.before.before.args.z ≡ decimal m
+plain c m e = let s = c.before.before in rw e (signed_above s.args.z (above s.ranges.z c.if-z-lt0.false))
 
-put-decimal-requires-2 : tie.Need-put-decimal-requires-2
-put-decimal-requires-2 c κs =
+put_decimal-requires-2 : tie.Need-put_decimal-requires-2
+put_decimal-requires-2 c κs =
     let t = c.before.before in
     let s = t.before.before in
-    subst (Room s) (plain t _ (passed s.ranges.z c.magnitude2.ensures)) s.requires
+    subst (Room s) (plain t _ (passed s.ranges.z c.magnitude-2.ensures)) s.requires
 
-returns-2 : tie.Need-returns-2
-returns-2 c =
+returns : tie.Need-returns
+returns c =
     let m = c.before.before.before in
     let t = m.before.before in
-    puts_text (sym (plain t _ (passed t.before.before.ranges.z m.magnitude2.ensures))) c.before.before.put-decimal2.ensures
+    puts_text (sym (plain t _ (passed t.before.before.ranges.z m.magnitude-2.ensures))) c.before.before.put_decimal-2.ensures
 
 pub put_signed_spec : {M : Type 1} → statement M
-put_signed_spec = tie.close (tie.spec (λ c. search rules) put-requires (λ c κs. search rules) put-decimal-requires (λ c. search rules) returns (λ c κs. search rules) put-decimal-requires-2 (λ c. search rules) returns-2)
+put_signed_spec = tie.close (tie.spec (λ c. search rules) put-a-requires (λ c κs. search rules) put_decimal-requires (λ c. search rules) returns-then-z-lt0 (λ c κs. search rules) put_decimal-requires-2 (λ c. search rules) returns)

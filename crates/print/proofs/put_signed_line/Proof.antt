@@ -12,28 +12,28 @@ use Rattle.print.proofs.PutLaws.{room_first, room_after, puts_then, puts_text}
 use Rattle.print.proofs.put_signed_line.Statement.{statement}
 use Rattle.print.proofs.put_signed_line.Tie as tie
 
-put-requires : tie.Need-put-requires
-put-requires c κs =
+put-a-requires : tie.Need-put-a-requires
+put-a-requires c κs =
     let s = c.before.before.before in
     room_first s.args.key.now (signed s.args.z ++ (10 ∷ [])) _ _ s.requires
 
 -- what follows the key has room
-behind_key : (c : tie.After-put) → c.put.result + length (signed c.before.before.before.before.args.z ++ (10 ∷ [])) ≤ length c.put.new.0
+behind_key : (c : tie.After-put-a) → c.put-a.result + length (signed c.before.before.before.before.args.z ++ (10 ∷ [])) ≤ length c.put-a.new.0
 behind_key c =
     let s = c.before.before.before.before in
-    room_after (signed s.args.z ++ (10 ∷ [])) s.requires c.put.ensures
+    room_after (signed s.args.z ++ (10 ∷ [])) s.requires c.put-a.ensures
 
-put-signed-requires : tie.Need-put-signed-requires
-put-signed-requires c κs =
+put_signed-b-requires : tie.Need-put_signed-b-requires
+put_signed-b-requires c κs =
     let k = c.before.before.before in
     rw (to_z-of_z k.before.before.before.before.ranges.z) (room_first (signed k.before.before.before.before.args.z) (10 ∷ []) _ _ (behind_key k))
 
-number : (c : tie.After-put-signed) → let k = c.before.before.before.before in
-    Puts k.put.new.0 k.put.result (signed k.before.before.before.before.args.z) c.put-signed.result c.put-signed.new.0
-number c = puts_text (ap signed (to_z-of_z c.before.before.before.before.before.before.before.before.ranges.z)) c.put-signed.ensures
+number : (c : tie.After-put_signed-b) → let k = c.before.before.before.before in
+    Puts k.put-a.new.0 k.put-a.result (signed k.before.before.before.before.args.z) c.put_signed-b.result c.put_signed-b.new.0
+number c = puts_text (ap signed (to_z-of_z c.before.before.before.before.before.before.before.before.ranges.z)) c.put_signed-b.ensures
 
-put-requires-2 : tie.Need-put-requires-2
-put-requires-2 c κs =
+put-requires : tie.Need-put-requires
+put-requires c κs =
     let n = c.before.before.before.before in
     room_after (10 ∷ []) (behind_key n.before.before.before.before) (number n)
 
@@ -41,7 +41,7 @@ returns : tie.Need-returns
 returns c =
     let n = c.before.before.before.before.before.before.before in
     let k = n.before.before.before.before in
-    puts_then _ k.before.before.before.before.requires k.put.ensures (puts_then _ (behind_key k) (number n) c.before.before.put2.ensures)
+    puts_then _ k.before.before.before.before.requires k.put-a.ensures (puts_then _ (behind_key k) (number n) c.before.before.put.ensures)
 
 pub put_signed_line_spec : {M : Type 1} → statement M
-put_signed_line_spec = tie.close (tie.spec put-requires put-signed-requires (λ c. search rules) put-requires-2 (λ c. search rules) returns)
+put_signed_line_spec = tie.close (tie.spec put-a-requires put_signed-b-requires (λ c. search rules) put-requires (λ c. search rules) returns)

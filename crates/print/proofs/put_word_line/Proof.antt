@@ -8,32 +8,32 @@ use Rattle.print.proofs.PutLaws.{room_first, room_after, puts_then}
 use Rattle.print.proofs.put_word_line.Statement.{statement}
 use Rattle.print.proofs.put_word_line.Tie as tie
 
-put-requires : tie.Need-put-requires
-put-requires c κs =
+put-a-requires : tie.Need-put-a-requires
+put-a-requires c κs =
     let s = c.before.before.before.before in
     room_first s.args.key.now (s.args.word.now ++ (10 ∷ [])) _ _ s.requires
 
 -- what follows the key has room
-behind_key : (c : tie.After-put) → c.put.result + length (c.before.before.before.before.before.args.word.now ++ (10 ∷ [])) ≤ length c.put.new.0
+behind_key : (c : tie.After-put-a) → c.put-a.result + length (c.before.before.before.before.before.args.word.now ++ (10 ∷ [])) ≤ length c.put-a.new.0
 behind_key c =
     let s = c.before.before.before.before.before in
-    room_after _ s.requires c.put.ensures
+    room_after _ s.requires c.put-a.ensures
 
-put-requires-2 : tie.Need-put-requires-2
-put-requires-2 c κs =
+put-b-requires : tie.Need-put-b-requires
+put-b-requires c κs =
     let k = c.before.before.before in
     room_first k.before.before.before.before.before.args.word.now (10 ∷ []) _ _ (behind_key k)
 
-put-requires-3 : tie.Need-put-requires-3
-put-requires-3 c κs =
+put-requires : tie.Need-put-requires
+put-requires c κs =
     let k = c.before.before.before.before.before.before.before.before in
-    room_after _ (behind_key k) c.before.before.before.before.put2.ensures
+    room_after _ (behind_key k) c.before.before.before.before.put-b.ensures
 
 returns : tie.Need-returns
 returns c =
     let w = c.before.before.before.before.before.before.before in
     let k = w.before.before.before.before in
-    puts_then _ k.before.before.before.before.before.requires k.put.ensures (puts_then _ (behind_key k) w.put2.ensures c.before.before.put3.ensures)
+    puts_then _ k.before.before.before.before.before.requires k.put-a.ensures (puts_then _ (behind_key k) w.put-b.ensures c.before.before.put.ensures)
 
 pub put_word_line_spec : {M : Type 1} → statement M
-put_word_line_spec = tie.close (tie.spec put-requires put-requires-2 (λ c. search rules) put-requires-3 (λ c. search rules) returns)
+put_word_line_spec = tie.close (tie.spec put-a-requires put-b-requires (λ c. search rules) put-requires (λ c. search rules) returns)

@@ -7,51 +7,51 @@ use borrow.Author.Rules.{rules}
 use Rattle.readers.proofs.begins.Statement.{statement}
 use Rattle.readers.proofs.begins.Tie as tie
 
-abbrev invariant-loop : tie.invariant-loop
-invariant-loop t key n k₀ k = Alike t key k
+abbrev invariant-loop-k : tie.invariant-loop-k
+invariant-loop-k t key n k₀ k = Alike t key k
 
-abbrev decreases-loop : tie.decreases-loop
-decreases-loop t key n k₀ k = length key - k
+abbrev decreases-loop-k : tie.decreases-loop-k
+decreases-loop-k t key n k₀ k = length key - k
 
-returns : tie.Need-returns invariant-loop decreases-loop
-returns c = record { holds = λ e. absurd (let z : ◌≡◌ {A = ℕ} 0 1 = cc in omega arith); fails = λ _. unkeyed_short _ _ c.if1.true }
+returns-then-t-n : tie.Need-returns-then-t-n invariant-loop-k decreases-loop-k
+returns-then-t-n c = record { holds = λ e. absurd (let z : ◌≡◌ {A = ℕ} 0 1 = cc in omega arith); fails = λ _. unkeyed_short _ _ c.if-t-n.true }
 
-loop-holds : tie.Need-loop-init invariant-loop decreases-loop
-loop-holds c = alike_none _ _
+loop-k-init : tie.Need-loop-k-init invariant-loop-k decreases-loop-k
+loop-k-init c = alike_none _ _
 
-shared-slice-read-if2 : tie.Need-shared-slice-read-if2 invariant-loop decreases-loop
-shared-slice-read-if2 c = search rules
+bounds-t-k : tie.Need-bounds-t-k invariant-loop-k decreases-loop-k
+bounds-t-k c = search rules
 
-shared-slice-read-if2-2 : tie.Need-shared-slice-read-if2-2 invariant-loop decreases-loop
-shared-slice-read-if2-2 c = search rules
+bounds-key-k : tie.Need-bounds-key-k invariant-loop-k decreases-loop-k
+bounds-key-k c = search rules
 
-returns-2 : tie.Need-returns-2 invariant-loop decreases-loop
-returns-2 c = record { holds = λ e. absurd (let z : ◌≡◌ {A = ℕ} 0 1 = cc in omega arith); fails = λ _. unkeyed _ _ _ c.before.before.before.before.loop.invariant c.before.before.before.before.before.if1.false c.before.before.before.loop-test.true c.if2.true }
+returns-then-t-k : tie.Need-returns-then-t-k invariant-loop-k decreases-loop-k
+returns-then-t-k c = record { holds = λ e. absurd (let z : ◌≡◌ {A = ℕ} 0 1 = cc in omega arith); fails = λ _. unkeyed _ _ _ c.before.before.before.before.loop-k.invariant c.before.before.before.before.before.if-t-n.false c.before.before.before.loop-k-test.true c.if-t-k.true }
 
-add-k : tie.Need-overflow-add-k invariant-loop decreases-loop
-add-k c = search rules
+overflow_add-k : tie.Need-overflow_add-k invariant-loop-k decreases-loop-k
+overflow_add-k c = search rules
 
-loop-less : tie.Need-loop-smaller invariant-loop decreases-loop
-loop-less c = search rules
+loop-k-smaller : tie.Need-loop-k-smaller invariant-loop-k decreases-loop-k
+loop-k-smaller c = search rules
 
-loop-again : tie.Need-loop-preserved invariant-loop decreases-loop
-loop-again c = alike_more _ _ _ c.before.before.before.before.loop.invariant c.before.before.before.before.before.if1.false c.before.before.before.loop-test.true c.if2.false
+loop-k-preserved : tie.Need-loop-k-preserved invariant-loop-k decreases-loop-k
+loop-k-preserved c = alike_more _ _ _ c.before.before.before.before.loop-k.invariant c.before.before.before.before.before.if-t-n.false c.before.before.before.loop-k-test.true c.if-t-k.false
 
-returns-3 : tie.Need-returns-3 invariant-loop decreases-loop
-returns-3 c = record { holds = λ _. all_keyed _ _ _ c.before.loop.invariant c.before.before.if1.false c.loop-test.false; fails = λ e. absurd (let z : ◌≡◌ {A = ℕ} 0 1 = cc in omega arith) }
+returns : tie.Need-returns invariant-loop-k decreases-loop-k
+returns c = record { holds = λ _. all_keyed _ _ _ c.before.loop-k.invariant c.before.before.if-t-n.false c.loop-k-test.false; fails = λ e. absurd (let z : ◌≡◌ {A = ℕ} 0 1 = cc in omega arith) }
 
 pub begins_spec : {M : Type 1} → statement M
 begins_spec =
     tie.close
     (tie.spec
-    invariant-loop
-    decreases-loop
-    returns
-    loop-holds
-    shared-slice-read-if2
-    shared-slice-read-if2-2
-    returns-2
-    add-k
-    loop-less
-    loop-again
-    returns-3)
+    invariant-loop-k
+    decreases-loop-k
+    returns-then-t-n
+    loop-k-init
+    bounds-t-k
+    bounds-key-k
+    returns-then-t-k
+    overflow_add-k
+    loop-k-smaller
+    loop-k-preserved
+    returns)

@@ -5,51 +5,51 @@ use borrow.Author.Rules.{rules}
 use Rattle.readers.proofs.line_end.Statement.{statement}
 use Rattle.readers.proofs.line_end.Tie as tie
 
-abbrev invariant-loop : tie.invariant-loop
-invariant-loop s at n i₀ i = Passed s at i
+abbrev invariant-loop-i : tie.invariant-loop-i
+invariant-loop-i s at n i₀ i = Passed s at i
 
-abbrev decreases-loop : tie.decreases-loop
-decreases-loop s at n i₀ i = length s - i
+abbrev decreases-loop-i : tie.decreases-loop-i
+decreases-loop-i s at n i₀ i = length s - i
 
-loop-holds : tie.Need-loop-init invariant-loop decreases-loop
-loop-holds c = passed_none _ _ (search rules)
+loop-i-init : tie.Need-loop-i-init invariant-loop-i decreases-loop-i
+loop-i-init c = passed_none _ _ (search rules)
 
-shared-slice-read-if1 : tie.Need-shared-slice-read-if1 invariant-loop decreases-loop
-shared-slice-read-if1 c = search rules
+bounds-s-i : tie.Need-bounds-s-i invariant-loop-i decreases-loop-i
+bounds-s-i c = search rules
 
-returns : tie.Need-returns invariant-loop decreases-loop
-returns c = ends_found _ _ _ c.before.before.before.loop.invariant c.before.before.loop-test.true c.if1.true
+returns-then-s-i-eq10 : tie.Need-returns-then-s-i-eq10 invariant-loop-i decreases-loop-i
+returns-then-s-i-eq10 c = ends_found _ _ _ c.before.before.before.loop-i.invariant c.before.before.loop-i-test.true c.if-s-i-eq10.true
 
-sub-if2 : tie.Need-overflow-sub-if2 invariant-loop decreases-loop
-sub-if2 c = search rules
+overflow_sub-i : tie.Need-overflow_sub-i invariant-loop-i decreases-loop-i
+overflow_sub-i c = search rules
 
-returns-2 : tie.Need-returns-2 invariant-loop decreases-loop
-returns-2 c = ends_long _ _ _ c.before.before.before.before.loop.invariant c.before.before.before.loop-test.true c.before.if1.false c.if2.true
+returns-then-i-at-eq40 : tie.Need-returns-then-i-at-eq40 invariant-loop-i decreases-loop-i
+returns-then-i-at-eq40 c = ends_long _ _ _ c.before.before.before.before.loop-i.invariant c.before.before.before.loop-i-test.true c.before.if-s-i-eq10.false c.if-i-at-eq40.true
 
-add-i : tie.Need-overflow-add-i invariant-loop decreases-loop
-add-i c = search rules
+overflow_add-i : tie.Need-overflow_add-i invariant-loop-i decreases-loop-i
+overflow_add-i c = search rules
 
-loop-less : tie.Need-loop-smaller invariant-loop decreases-loop
-loop-less c = search rules
+loop-i-smaller : tie.Need-loop-i-smaller invariant-loop-i decreases-loop-i
+loop-i-smaller c = search rules
 
-loop-again : tie.Need-loop-preserved invariant-loop decreases-loop
-loop-again c = passed_more _ _ _ c.before.before.before.before.loop.invariant c.before.before.before.loop-test.true c.if2.false c.before.if1.false
+loop-i-preserved : tie.Need-loop-i-preserved invariant-loop-i decreases-loop-i
+loop-i-preserved c = passed_more _ _ _ c.before.before.before.before.loop-i.invariant c.before.before.before.loop-i-test.true c.if-i-at-eq40.false c.before.if-s-i-eq10.false
 
-returns-3 : tie.Need-returns-3 invariant-loop decreases-loop
-returns-3 c = ends_short _ _ _ c.before.loop.invariant c.loop-test.false
+returns : tie.Need-returns invariant-loop-i decreases-loop-i
+returns c = ends_short _ _ _ c.before.loop-i.invariant c.loop-i-test.false
 
 pub line_end_spec : {M : Type 1} → statement M
 line_end_spec =
     tie.close
     (tie.spec
-    invariant-loop
-    decreases-loop
-    loop-holds
-    shared-slice-read-if1
-    returns
-    sub-if2
-    returns-2
-    add-i
-    loop-less
-    loop-again
-    returns-3)
+    invariant-loop-i
+    decreases-loop-i
+    loop-i-init
+    bounds-s-i
+    returns-then-s-i-eq10
+    overflow_sub-i
+    returns-then-i-at-eq40
+    overflow_add-i
+    loop-i-smaller
+    loop-i-preserved
+    returns)

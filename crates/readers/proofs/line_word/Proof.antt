@@ -10,46 +10,46 @@ use Rattle.readers.proofs.line_word.Statement.{statement}
 use Rattle.readers.proofs.line_word.Tie as tie
 
 -- where the value stands
-stands : (c : tie.Else1) → (let v = c.before.before.value-at.result in (v.from ≤ v.end) × (v.end < length c.before.before.before.before.before.before.args.s.now))
-stands c = let w = c.before.before.value-at.ensures.there (not-false _ c.if1.false) in (w.0, w.1)
+stands : (c : tie.Else-not-v) → (let v = c.before.before.value_at-v.result in (v.from ≤ v.end) × (v.end < length c.before.before.before.before.before.before.args.s.now))
+stands c = let w = c.before.before.value_at-v.ensures.there (not-false _ c.if-not-v.false) in (w.0, w.1)
 
-value-at-requires : tie.Need-value-at-requires
-value-at-requires c κs = search rules
+value_at-v-requires : tie.Need-value_at-v-requires
+value_at-v-requires c κs = search rules
 
-returns : tie.Need-returns
-returns c = tells_51 (word _) tt _ _ _ _ c.before.before.value-at.ensures (not-true _ c.if1.true)
+returns-then-not-v : tie.Need-returns-then-not-v
+returns-then-not-v c = tells_51 (word _) tt _ _ _ _ c.before.before.value_at-v.ensures (not-true _ c.if-not-v.true)
 
-sub_is : tie.Need-overflow-sub-is
-sub_is c = (stands c).0
+slice_bounds-is-count : tie.Need-slice_bounds-is-count
+slice_bounds-is-count c = (stands c).0
 
-part-is-start : tie.Need-slice-bounds-is-start
-part-is-start c = omega (arith, stands c)
+slice_bounds-is-start : tie.Need-slice_bounds-is-start
+slice_bounds-is-start c = omega (arith, stands c)
 
-part-is-end : tie.Need-slice-bounds-is-end
-part-is-end c = omega (arith, stands c)
+slice_bounds-is-end : tie.Need-slice_bounds-is-end
+slice_bounds-is-end c = omega (arith, stands c)
 
 is-requires : tie.Need-is-requires
 is-requires c κs = search rules
 
-returns-2 : tie.Need-returns-2
-returns-2 c = tells_52 (word _) tt _ _ _ _ c.before.before.before.before.before.value-at.ensures (not-false _ c.before.before.before.if1.false) (λ w. c.before.is.ensures.fails (not-true _ c.if2.true) (sym w.1))
+returns-then-not-is : tie.Need-returns-then-not-is
+returns-then-not-is c = tells_52 (word _) tt _ _ _ _ c.before.before.before.before.before.value_at-v.ensures (not-false _ c.before.before.before.if-not-v.false) (λ w. c.before.is.ensures.fails (not-true _ c.if-not-is.true) (sym w.1))
 
-add-t10 : tie.Need-overflow-add-t10
-add-t10 c = omega (arith, (stands c.before.before.before).1)
+overflow_add-result : tie.Need-overflow_add-result
+overflow_add-result c = omega (arith, (stands c.before.before.before).1)
 
-returns-3 : tie.Need-returns-3
-returns-3 c = tells_value (word _) tt _ _ _ _ c.before.before.before.before.before.value-at.ensures (not-false _ c.before.before.before.if1.false) tt (tt, sym (c.before.is.ensures.holds (not-false _ c.if2.false))) refl
+returns : tie.Need-returns
+returns c = tells_value (word _) tt _ _ _ _ c.before.before.before.before.before.value_at-v.ensures (not-false _ c.before.before.before.if-not-v.false) tt (tt, sym (c.before.is.ensures.holds (not-false _ c.if-not-is.false))) refl
 
 pub line_word_spec : {M : Type 1} → statement M
 line_word_spec =
     tie.close
     (tie.spec
-    value-at-requires
-    returns
-    sub_is
-    part-is-start
-    part-is-end
+    value_at-v-requires
+    returns-then-not-v
+    slice_bounds-is-count
+    slice_bounds-is-start
+    slice_bounds-is-end
     is-requires
-    returns-2
-    add-t10
-    returns-3)
+    returns-then-not-is
+    overflow_add-result
+    returns)

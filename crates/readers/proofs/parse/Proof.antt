@@ -10,84 +10,84 @@ use borrow.Author.Rules.{rules}
 use Rattle.readers.proofs.parse.Statement.{statement}
 use Rattle.readers.proofs.parse.Tie as tie
 
-abbrev invariant-loop : tie.invariant-loop
-invariant-loop t most a₀ i₀ a i = Sofar 10 t a i × (a ≤ most)
+abbrev invariant-loop-i : tie.invariant-loop-i
+invariant-loop-i t most a₀ i₀ a i = Sofar 10 t a i × (a ≤ most)
 
-abbrev decreases-loop : tie.decreases-loop
-decreases-loop t most a₀ i₀ a i = length t - i
+abbrev decreases-loop-i : tie.decreases-loop-i
+decreases-loop-i t most a₀ i₀ a i = length t - i
 
 -- one more digit
 passed_on :
-    (c : tie.After-wide invariant-loop decreases-loop) →
-    Sofar 10 c.before.before.before.before.before.before.before.before.before.args.t.now (c.before.before.before.before.before.loop.a * 10 + c.wide.result) (c.before.before.before.before.before.loop.i + 1)
+    (c : tie.After-wide invariant-loop-i decreases-loop-i) →
+    Sofar 10 c.before.before.before.before.before.before.before.before.before.args.t.now (c.before.before.before.before.before.loop-i.a * 10 + c.wide.result) (c.before.before.before.before.before.loop-i.i + 1)
 passed_on c =
     let t = c.before.before.before.before.before.before.before.before.before.args.t.now in
-    let l = c.before.before.before.before.before.loop in
+    let l = c.before.before.before.before.before.loop-i in
     let b = get_or t l.i 0 in
-    let low : 48 ≤ b = c.before.before.if2.false in
-    let high : b ≤ 57 = c.before.if3.false in
+    let low : 48 ≤ b = c.before.before.if-c-lt48.false in
+    let high : b ≤ 57 = c.before.if-c-gt57.false in
     subst (λ (v : ℕ). Sofar 10 t (l.a * 10 + v) (l.i + 1)) (unglyph_low b (omega arith) ∙ sym c.wide.ensures)
-    (sofar_more 10 t l.a l.i l.invariant.0 c.before.before.before.before.loop-test.true (digit_make b low high))
+    (sofar_more 10 t l.a l.i l.invariant.0 c.before.before.before.before.loop-i-test.true (digit_make b low high))
 
-led-requires : tie.Need-led-requires invariant-loop decreases-loop
+led-requires : tie.Need-led-requires invariant-loop-i decreases-loop-i
 led-requires c κs = search rules
 
-returns : tie.Need-returns invariant-loop decreases-loop
-returns c = number_no _ _ (bad_lead _ _ c.before.before.before.requires (c.before.led.ensures.fails (not-true _ c.if1.true)))
+returns-then-not-led : tie.Need-returns-then-not-led invariant-loop-i decreases-loop-i
+returns-then-not-led c = number_no _ _ (bad_lead _ _ c.before.before.before.requires (c.before.led.ensures.fails (not-true _ c.if-not-led.true)))
 
-loop-holds : tie.Need-loop-init invariant-loop decreases-loop
-loop-holds c = (sofar_none 10 _, search rules)
+loop-i-init : tie.Need-loop-i-init invariant-loop-i decreases-loop-i
+loop-i-init c = (sofar_none 10 _, search rules)
 
-shared-slice-read-c : tie.Need-shared-slice-read-c invariant-loop decreases-loop
-shared-slice-read-c c = search rules
+bounds-t-i : tie.Need-bounds-t-i invariant-loop-i decreases-loop-i
+bounds-t-i c = search rules
 
-returns-2 : tie.Need-returns-2 invariant-loop decreases-loop
-returns-2 c = number_no _ _ (bad_digit _ _ c.before.before.before.before.before.before.before.requires _ c.before.before.loop-test.true (λ d. omega (arith, d.least)))
+returns-then-c-lt48 : tie.Need-returns-then-c-lt48 invariant-loop-i decreases-loop-i
+returns-then-c-lt48 c = number_no _ _ (bad_digit _ _ c.before.before.before.before.before.before.before.requires _ c.before.before.loop-i-test.true (λ d. omega (arith, d.least)))
 
-returns-3 : tie.Need-returns-3 invariant-loop decreases-loop
-returns-3 c = number_no _ _ (bad_digit _ _ c.before.before.before.before.before.before.before.before.requires _ c.before.before.before.loop-test.true (λ d. omega (arith, digit_most _ d)))
+returns-then-c-gt57 : tie.Need-returns-then-c-gt57 invariant-loop-i decreases-loop-i
+returns-then-c-gt57 c = number_no _ _ (bad_digit _ _ c.before.before.before.before.before.before.before.before.requires _ c.before.before.before.loop-i-test.true (λ d. omega (arith, digit_most _ d)))
 
-mul-a : tie.Need-overflow-mul-a invariant-loop decreases-loop
-mul-a c = search rules
+overflow_mul-a : tie.Need-overflow_mul-a invariant-loop-i decreases-loop-i
+overflow_mul-a c = search rules
 
-wide-requires : tie.Need-wide-requires invariant-loop decreases-loop
+wide-requires : tie.Need-wide-requires invariant-loop-i decreases-loop-i
 wide-requires c κs = search rules
 
-add_a : tie.Need-overflow-add-a invariant-loop decreases-loop
-add_a c = omega (arith, c.wide.ensures, c.before.before.before.shared-slice-known2.given c.before.before.before.before.before.loop.i)
+overflow_add-a : tie.Need-overflow_add-a invariant-loop-i decreases-loop-i
+overflow_add-a c = omega (arith, c.wide.ensures, c.before.before.before.shared_slice_known-in-loop-i-1.given c.before.before.before.before.before.loop-i.i)
 
-returns-4 : tie.Need-returns-4 invariant-loop decreases-loop
-returns-4 c = number_no _ _ (bad_most _ _ c.before.before.before.before.before.before.before.before.before.before.requires _ _ (passed_on c.before) c.if4.true)
+returns-then-most-a : tie.Need-returns-then-most-a invariant-loop-i decreases-loop-i
+returns-then-most-a c = number_no _ _ (bad_most _ _ c.before.before.before.before.before.before.before.before.before.before.requires _ _ (passed_on c.before) c.if-most-a.true)
 
-add-i : tie.Need-overflow-add-i invariant-loop decreases-loop
-add-i c = search rules
+overflow_add-i : tie.Need-overflow_add-i invariant-loop-i decreases-loop-i
+overflow_add-i c = search rules
 
-loop-less : tie.Need-loop-smaller invariant-loop decreases-loop
-loop-less c = search rules
+loop-i-smaller : tie.Need-loop-i-smaller invariant-loop-i decreases-loop-i
+loop-i-smaller c = search rules
 
-loop-again : tie.Need-loop-preserved invariant-loop decreases-loop
-loop-again c = (passed_on c.before, c.if4.false)
+loop-i-preserved : tie.Need-loop-i-preserved invariant-loop-i decreases-loop-i
+loop-i-preserved c = (passed_on c.before, c.if-most-a.false)
 
-returns-5 : tie.Need-returns-5 invariant-loop decreases-loop
-returns-5 c = let w = good _ _ c.before.before.before.before.before.requires _ _ c.before.loop.invariant.0 c.loop-test.false c.before.loop.invariant.1 (c.before.before.before.led.ensures.holds (not-false _ c.before.before.if1.false)) in number_yes _ _ _ w.0 w.1
+returns : tie.Need-returns invariant-loop-i decreases-loop-i
+returns c = let w = good _ _ c.before.before.before.before.before.requires _ _ c.before.loop-i.invariant.0 c.loop-i-test.false c.before.loop-i.invariant.1 (c.before.before.before.led.ensures.holds (not-false _ c.before.before.if-not-led.false)) in number_yes _ _ _ w.0 w.1
 
 pub parse_spec : {M : Type 1} → statement M
 parse_spec =
     tie.close
     (tie.spec
-    invariant-loop
-    decreases-loop
+    invariant-loop-i
+    decreases-loop-i
     led-requires
-    returns
-    loop-holds
-    shared-slice-read-c
-    returns-2
-    returns-3
-    mul-a
+    returns-then-not-led
+    loop-i-init
+    bounds-t-i
+    returns-then-c-lt48
+    returns-then-c-gt57
+    overflow_mul-a
     wide-requires
-    add_a
-    returns-4
-    add-i
-    loop-less
-    loop-again
-    returns-5)
+    overflow_add-a
+    returns-then-most-a
+    overflow_add-i
+    loop-i-smaller
+    loop-i-preserved
+    returns)

@@ -4,43 +4,43 @@ use borrow.Author.Rules.{rules}
 use Rattle.readers.proofs.value_at.Statement.{statement}
 use Rattle.readers.proofs.value_at.Tie as tie
 
-line-end-requires : tie.Need-line-end-requires
-line-end-requires c κs = search rules
+line_end-e-requires : tie.Need-line_end-e-requires
+line_end-e-requires c κs = search rules
 
-returns : tie.Need-returns
-returns c = value_missing _ _ _ _ c.before.line-end.ensures c.if1.true
+returns-then-e-s : tie.Need-returns-then-e-s
+returns-then-e-s c = value_missing _ _ _ _ c.before.line_end-e.ensures c.if-e-s.true
 
-sub-begins : tie.Need-overflow-sub-begins
-sub-begins c = search rules
+slice_bounds-begins-count : tie.Need-slice_bounds-begins-count
+slice_bounds-begins-count c = search rules
 
-part-begins-start : tie.Need-slice-bounds-begins-start
-part-begins-start c = search rules
+slice_bounds-begins-start : tie.Need-slice_bounds-begins-start
+slice_bounds-begins-start c = search rules
 
-part-begins-end : tie.Need-slice-bounds-begins-end
-part-begins-end c = search rules
+slice_bounds-begins-end : tie.Need-slice_bounds-begins-end
+slice_bounds-begins-end c = search rules
 
 begins-requires : tie.Need-begins-requires
 begins-requires c κs = search rules
 
-returns-2 : tie.Need-returns-2
-returns-2 c = value_other _ _ _ _ c.before.before.before.before.line-end.ensures c.before.before.before.if1.false (c.before.begins.ensures.fails (not-true _ c.if2.true))
+returns-then-not-begins : tie.Need-returns-then-not-begins
+returns-then-not-begins c = value_other _ _ _ _ c.before.before.before.before.line_end-e.ensures c.before.before.before.if-e-s.false (c.before.begins.ensures.fails (not-true _ c.if-not-begins.true))
 
-add-t11 : tie.Need-overflow-add-t11
-add-t11 c = search rules
+overflow_add-result : tie.Need-overflow_add-result
+overflow_add-result c = search rules
 
-returns-3 : tie.Need-returns-3
-returns-3 c = value_there _ _ _ _ c.before.before.before.before.line-end.ensures c.before.before.before.if1.false (c.before.begins.ensures.holds (not-false _ c.if2.false))
+returns : tie.Need-returns
+returns c = value_there _ _ _ _ c.before.before.before.before.line_end-e.ensures c.before.before.before.if-e-s.false (c.before.begins.ensures.holds (not-false _ c.if-not-begins.false))
 
 pub value_at_spec : {M : Type 1} → statement M
 value_at_spec =
     tie.close
     (tie.spec
-    line-end-requires
-    returns
-    sub-begins
-    part-begins-start
-    part-begins-end
+    line_end-e-requires
+    returns-then-e-s
+    slice_bounds-begins-count
+    slice_bounds-begins-start
+    slice_bounds-begins-end
     begins-requires
-    returns-2
-    add-t11
-    returns-3)
+    returns-then-not-begins
+    overflow_add-result
+    returns)

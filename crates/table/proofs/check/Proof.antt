@@ -24,90 +24,90 @@ record Passed (t : Table) (p : ℕ) : Type 0 where
   within : p ≤ length t.x
   ranged : (q : ℕ) → q < p → Ranged (box_of t q)
 
-abbrev invariant-loop : tie.invariant-loop
-invariant-loop x y kit places p₀ p = Passed (table x y kit) p
+abbrev invariant-loop-p : tie.invariant-loop-p
+invariant-loop-p x y kit places p₀ p = Passed (table x y kit) p
 
-abbrev decreases-loop : tie.decreases-loop
-decreases-loop x y kit places p₀ p = length x - p
+abbrev decreases-loop-p : tie.decreases-loop-p
+decreases-loop-p x y kit places p₀ p = length x - p
 
-returns : tie.Need-returns invariant-loop decreases-loop
-returns c = uneven _ (λ h. c.if1.true h.y)
+returns-then-y-places : tie.Need-returns-then-y-places invariant-loop-p decreases-loop-p
+returns-then-y-places c = uneven _ (λ h. c.if-y-places.true h.y)
 
-returns-2 : tie.Need-returns-2 invariant-loop decreases-loop
-returns-2 c = uneven _ (λ h. c.if2.true h.kit)
+returns-then-kit-places : tie.Need-returns-then-kit-places invariant-loop-p decreases-loop-p
+returns-then-kit-places c = uneven _ (λ h. c.if-kit-places.true h.kit)
 
-returns-3 : tie.Need-returns-3 invariant-loop decreases-loop
-returns-3 c = uneven _ (λ h. omega (arith, h.few))
+returns-then-places-gt4096 : tie.Need-returns-then-places-gt4096 invariant-loop-p decreases-loop-p
+returns-then-places-gt4096 c = uneven _ (λ h. omega (arith, h.few))
 
-loop-holds : tie.Need-loop-init invariant-loop decreases-loop
-loop-holds c = record {
-  even = record { y = c.before.before.if1.false; kit = c.before.if2.false; few = c.if3.false };
+loop-p-init : tie.Need-loop-p-init invariant-loop-p decreases-loop-p
+loop-p-init c = record {
+  even = record { y = c.before.before.if-y-places.false; kit = c.before.if-kit-places.false; few = c.if-places-gt4096.false };
   within = omega arith;
   ranged = λ q b. absurd (omega arith);
 }
 
-mul-is-off : tie.Need-overflow-mul-is-off invariant-loop decreases-loop
-mul-is-off c = search rules
+offset_bounds-x-p : tie.Need-offset_bounds-x-p invariant-loop-p decreases-loop-p
+offset_bounds-x-p c = search rules
 
-shared-slice-copy-out-is-off : tie.Need-shared-slice-copy-out-is-off invariant-loop decreases-loop
-shared-slice-copy-out-is-off c = search rules
+bounds-x-p : tie.Need-bounds-x-p invariant-loop-p decreases-loop-p
+bounds-x-p c = search rules
 
-mul-is-off-2 : tie.Need-overflow-mul-is-off-2 invariant-loop decreases-loop
-mul-is-off-2 c = search rules
+offset_bounds-y-p : tie.Need-offset_bounds-y-p invariant-loop-p decreases-loop-p
+offset_bounds-y-p c = search rules
 
-shared-slice-copy-out-is-off-2 : tie.Need-shared-slice-copy-out-is-off-2 invariant-loop decreases-loop
-shared-slice-copy-out-is-off-2 c = search rules
+bounds-y-p : tie.Need-bounds-y-p invariant-loop-p decreases-loop-p
+bounds-y-p c = search rules
 
-is-off-requires : tie.Need-is-off-requires invariant-loop decreases-loop
-is-off-requires c κs = search rules
+is_off-requires : tie.Need-is_off-requires invariant-loop-p decreases-loop-p
+is_off-requires c κs = search rules
 
 -- what `is_off` answers on two elements
 said : (x y : ℤ) {r b : Bool} → mag x < 2 ^ 31 → mag y < 2 ^ 31 → r ≡ (outside (to_z w32 (of_z w32 x)) || outside (to_z w32 (of_z w32 y))) → r ≡ b → (outside x || outside y) ≡ b
 said x y h k e t = sym (rw (to_z-of_z (fit x h), to_z-of_z (fit y k)) at e) ∙ t
 
-answer : (c : tie.After-is-off invariant-loop decreases-loop) {b : Bool} → c.is-off.result ≡ b →
-    let v = c.before.before.before.before.before.before.before.before.before.args in let p = c.before.before.before.before.loop.p in
+answer : (c : tie.After-is_off invariant-loop-p decreases-loop-p) {b : Bool} → c.is_off.result ≡ b →
+    let v = c.before.before.before.before.before.before.before.before.before.args in let p = c.before.before.before.before.loop-p.p in
     (outside (get_or v.x.now p (pos 0)) || outside (get_or v.y.now p (pos 0))) ≡ b
-answer c t = said _ _ c.before.before.is-off-arg.given c.before.is-off-arg2.given c.is-off.ensures t
+answer c t = said _ _ c.before.before.is_off-arg-1.given c.before.is_off-arg-in-loop-p-1.given c.is_off.ensures t
 
-returns-4 : tie.Need-returns-4 invariant-loop decreases-loop
-returns-4 c =
-    let l = c.before.before.before.before.before.loop in
-    off_at _ l.invariant.even l.p c.before.before.before.before.loop-test.true l.invariant.ranged (off (answer c.before c.if4.true))
+returns-then-is_off : tie.Need-returns-then-is_off invariant-loop-p decreases-loop-p
+returns-then-is_off c =
+    let l = c.before.before.before.before.before.loop-p in
+    off_at _ l.invariant.even l.p c.before.before.before.before.loop-p-test.true l.invariant.ranged (off (answer c.before c.if-is_off.true))
 
-add-p : tie.Need-overflow-add-p invariant-loop decreases-loop
-add-p c = search rules
+overflow_add-p : tie.Need-overflow_add-p invariant-loop-p decreases-loop-p
+overflow_add-p c = search rules
 
-loop-less : tie.Need-loop-smaller invariant-loop decreases-loop
-loop-less c = search rules
+loop-p-smaller : tie.Need-loop-p-smaller invariant-loop-p decreases-loop-p
+loop-p-smaller c = search rules
 
-loop-again : tie.Need-loop-preserved invariant-loop decreases-loop
-loop-again c =
-    let l = c.before.before.before.before.before.loop in
-    record { even = l.invariant.even; within = omega arith; ranged = below_more _ _ l.invariant.ranged (on (answer c.before c.if4.false)) }
+loop-p-preserved : tie.Need-loop-p-preserved invariant-loop-p decreases-loop-p
+loop-p-preserved c =
+    let l = c.before.before.before.before.before.loop-p in
+    record { even = l.invariant.even; within = omega arith; ranged = below_more _ _ l.invariant.ranged (on (answer c.before c.if-is_off.false)) }
 
-returns-5 : tie.Need-returns-5 invariant-loop decreases-loop
-returns-5 c =
-    let l = c.before.loop in
+returns : tie.Need-returns invariant-loop-p decreases-loop-p
+returns c =
+    let l = c.before.loop-p in
     no_fault _ l.invariant.even (λ q b. l.invariant.ranged q (omega arith))
 
 pub check_spec : {M : Type 1} → statement M
 check_spec =
     tie.close
     (tie.spec
-    invariant-loop
-    decreases-loop
-    returns
-    returns-2
-    returns-3
-    loop-holds
-    mul-is-off
-    shared-slice-copy-out-is-off
-    mul-is-off-2
-    shared-slice-copy-out-is-off-2
-    is-off-requires
-    returns-4
-    add-p
-    loop-less
-    loop-again
-    returns-5)
+    invariant-loop-p
+    decreases-loop-p
+    returns-then-y-places
+    returns-then-kit-places
+    returns-then-places-gt4096
+    loop-p-init
+    offset_bounds-x-p
+    bounds-x-p
+    offset_bounds-y-p
+    bounds-y-p
+    is_off-requires
+    returns-then-is_off
+    overflow_add-p
+    loop-p-smaller
+    loop-p-preserved
+    returns)

@@ -2,7 +2,7 @@
 -- Assumes nothing.
 use Rattle.std.specs.Prelude.{◌≡◌, List, [], ◌∷◌, ℕ, ◌≤◌, ℤ, pos, length, get_or}
 use Rattle.std.proofs.Math.Bool.{Bool-discrete}
-use Rattle.std.proofs.Math.Logic.{Dec·and}
+use Rattle.std.proofs.Math.Logic.Dec
 use Rattle.std.proofs.Math.Decide.{dec_le, ℕ_discrete}
 use Rattle.std.proofs.Common.{lit≤}
 use Rattle.plane.specs.Plane.{point, InRange, Ranged}
@@ -39,18 +39,18 @@ pub record Even (t : Table) : Type 0 where
 
 -- that is decided, and so is 12: the coordinates of a place are in range
 unfoldable pub dec_even : (t : Table) → Dec (Even t)
-unfolding Dec·and ℕ_discrete dec_le
+unfolding Dec.and ℕ_discrete dec_le
 dec_even t =
     dec_by (λ w. record { y = w.0; kit = w.1.0; few = w.1.1 }) (λ h. (h.y, (h.kit, h.few)))
-    (Dec·and (ℕ_discrete _ _) (Dec·and (ℕ_discrete _ _) (dec_le _ _)))
+    (Dec.and (ℕ_discrete _ _) (Dec.and (ℕ_discrete _ _) (dec_le _ _)))
 
 unfoldable pub dec_in_range : (s : Span) → Dec (InRange s)
-unfolding Dec·and
-dec_in_range s = dec_by (λ w. record { lo = w.0; hi = w.1 }) (λ h. (h.lo, h.hi)) (Dec·and (Bool-discrete _ _) (Bool-discrete _ _))
+unfolding Dec.and
+dec_in_range s = dec_by (λ w. record { lo = w.0; hi = w.1 }) (λ h. (h.lo, h.hi)) (Dec.and (Bool-discrete _ _) (Bool-discrete _ _))
 
 unfoldable pub dec_ranged : (b : Box) → Dec (Ranged b)
-unfolding Dec·and dec_in_range
-dec_ranged b = dec_by (λ w. record { x = w.0; y = w.1 }) (λ h. (h.x, h.y)) (Dec·and (dec_in_range _) (dec_in_range _))
+unfolding Dec.and dec_in_range
+dec_ranged b = dec_by (λ w. record { x = w.0; y = w.1 }) (λ h. (h.x, h.y)) (Dec.and (dec_in_range _) (dec_in_range _))
 
 abbrev pub rule11 : Table → Rule
 rule11 t = record { code = 11; numbered = lit≤ tt; from = 0; many = 1; Asks = λ _. Even t; decides = λ _. dec_even t }

@@ -11,20 +11,20 @@ use Rattle.print.proofs.PutLaws.{puts_text, hex_made}
 use Rattle.print.proofs.put_bits_line.Statement.{statement}
 use Rattle.print.proofs.put_bits_line.Tie as tie
 
-text_is : (c : tie.After-hex-k) → take c.hex-k.result c.hex-k.new.1.1.0 ≡ hex c.before.before.before.before.args.n
-text_is c = c.hex-k.ensures.1.1 ∙ hex_made _ _ c.before.before.before.before.ranges.n.fits c.hex-k.ensures.1.0
+text_is : (c : tie.After-hex-k) → take c.hex-k.result c.hex-k.new.out ≡ hex c.args.n
+text_is c = c.hex-k.ensures.1.1.0 ∙ hex_made _ _ c.ranges.n.fits c.hex-k.ensures.1.0
 
 put_word_line-requires : tie.Need-put_word_line-requires
 put_word_line-requires c κs =
     let d = c.before.before in
     let s = d.before.before.before.before in
-    subst (λ (t : List ℕ). s.args.at + length (line_of s.args.key.now t) ≤ length s.args.out-1.now) (sym (text_is d)) s.requires
+    subst (λ (t : List ℕ). s.args.at + length (line_of s.args.key.now t) ≤ length s.args.out.now) (sym (text_is d)) s.requires
 
 returns : tie.Need-returns
 returns c =
     let d = c.before.before.before.before.before in
     let s = d.before.before.before.before in
-    puts_text (ap (line_of s.args.key.now) (text_is d)) c.before.before.put_word_line.ensures
+    puts_text (ap (line_of s.args.key.now) (text_is d)) c.put_word_line.ensures
 
 pub put_bits_line_spec : {M : Type 1} → statement M
 put_bits_line_spec = tie.close (tie.spec (λ c κs. search rules) (λ c. search rules) (λ c. search rules) put_word_line-requires (λ c. search rules) returns)

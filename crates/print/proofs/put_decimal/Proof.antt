@@ -10,8 +10,8 @@ use Rattle.print.proofs.put_decimal.Statement.{statement}
 use Rattle.print.proofs.put_decimal.Tie as tie
 
 -- the text that `io` makes
-text_is : (c : tie.After-decimal-k) → take c.decimal-k.result c.decimal-k.new.1.0 ≡ decimal c.before.before.before.args.n
-text_is c = c.decimal-k.ensures.1.1 ∙ decimal_made _ _ c.before.before.before.ranges.n.fits c.decimal-k.ensures.1.0
+text_is : (c : tie.After-decimal-k) → take c.decimal-k.result c.decimal-k.new.out ≡ decimal c.args.n
+text_is c = c.decimal-k.ensures.1.1.0 ∙ decimal_made _ _ c.ranges.n.fits c.decimal-k.ensures.1.0
 
 decimal-k-requires : tie.Need-decimal-k-requires
 decimal-k-requires c κs = search rules
@@ -23,21 +23,15 @@ slice_bounds-put-end : tie.Need-slice_bounds-put-end
 slice_bounds-put-end c = search rules
 
 put-requires : tie.Need-put-requires
-put-requires c κs = let e = ap length (text_is c.before.before) in omega (arith, c.before.before.before.before.before.requires)
+put-requires c κs = let e = ap length (text_is c.before.before) in omega (arith, c.requires)
 
 shape_of-out : tie.Need-shape_of-out
 shape_of-out c = search rules
 
 returns : tie.Need-returns
-returns c = puts_text (text_is c.before.before.before.before.before) c.before.before.put.ensures
+returns c = puts_text (text_is c.before.before.before.before.before) c.put.ensures
 
 pub put_decimal_spec : {M : Type 1} → statement M
 put_decimal_spec =
     tie.close
-    (tie.spec
-    decimal-k-requires
-    slice_bounds-text-end
-    slice_bounds-put-end
-    put-requires
-    shape_of-out
-    returns)
+    (tie.spec decimal-k-requires slice_bounds-text-end slice_bounds-put-end put-requires shape_of-out returns)

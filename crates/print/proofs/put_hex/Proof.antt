@@ -10,8 +10,8 @@ use Rattle.print.proofs.put_hex.Statement.{statement}
 use Rattle.print.proofs.put_hex.Tie as tie
 
 -- the text that `io` makes
-text_is : (c : tie.After-hex-k) → take c.hex-k.result c.hex-k.new.1.1.0 ≡ hex c.before.before.before.args.n
-text_is c = c.hex-k.ensures.1.1 ∙ hex_made _ _ c.before.before.before.ranges.n.fits c.hex-k.ensures.1.0
+text_is : (c : tie.After-hex-k) → take c.hex-k.result c.hex-k.new.out ≡ hex c.args.n
+text_is c = c.hex-k.ensures.1.1.0 ∙ hex_made _ _ c.ranges.n.fits c.hex-k.ensures.1.0
 
 hex-k-requires : tie.Need-hex-k-requires
 hex-k-requires c κs = search rules
@@ -23,21 +23,15 @@ slice_bounds-put-end : tie.Need-slice_bounds-put-end
 slice_bounds-put-end c = search rules
 
 put-requires : tie.Need-put-requires
-put-requires c κs = let e = ap length (text_is c.before.before) in omega (arith, c.before.before.before.before.before.requires)
+put-requires c κs = let e = ap length (text_is c.before.before) in omega (arith, c.requires)
 
 shape_of-out : tie.Need-shape_of-out
 shape_of-out c = search rules
 
 returns : tie.Need-returns
-returns c = puts_text (text_is c.before.before.before.before.before) c.before.before.put.ensures
+returns c = puts_text (text_is c.before.before.before.before.before) c.put.ensures
 
 pub put_hex_spec : {M : Type 1} → statement M
 put_hex_spec =
     tie.close
-    (tie.spec
-    hex-k-requires
-    slice_bounds-text-end
-    slice_bounds-put-end
-    put-requires
-    shape_of-out
-    returns)
+    (tie.spec hex-k-requires slice_bounds-text-end slice_bounds-put-end put-requires shape_of-out returns)

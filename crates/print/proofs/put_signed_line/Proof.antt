@@ -18,7 +18,7 @@ put-a-requires c κs =
     room_first s.args.key.now (signed s.args.z ++ (10 ∷ [])) _ _ s.requires
 
 -- what follows the key has room
-behind_key : (c : tie.After-put-a) → c.put-a.result + length (signed c.before.before.before.before.args.z ++ (10 ∷ [])) ≤ length c.put-a.new.0
+behind_key : (c : tie.After-put-a) → c.put-a.result + length (signed c.args.z ++ (10 ∷ [])) ≤ length c.put-a.new.out
 behind_key c =
     let s = c.before.before.before.before in
     room_after (signed s.args.z ++ (10 ∷ [])) s.requires c.put-a.ensures
@@ -26,22 +26,22 @@ behind_key c =
 put_signed-b-requires : tie.Need-put_signed-b-requires
 put_signed-b-requires c κs =
     let k = c.before.before.before in
-    rw (to_z-of_z k.before.before.before.before.ranges.z) (room_first (signed k.before.before.before.before.args.z) (10 ∷ []) _ _ (behind_key k))
+    rw (to_z-of_z k.ranges.z) (room_first (signed k.args.z) (10 ∷ []) _ _ (behind_key k))
 
 number : (c : tie.After-put_signed-b) → let k = c.before.before.before.before in
-    Puts k.put-a.new.0 k.put-a.result (signed k.before.before.before.before.args.z) c.put_signed-b.result c.put_signed-b.new.0
-number c = puts_text (ap signed (to_z-of_z c.before.before.before.before.before.before.before.before.ranges.z)) c.put_signed-b.ensures
+    Puts k.put-a.new.out k.put-a.result (signed k.args.z) c.put_signed-b.result c.put_signed-b.new.out
+number c = puts_text (ap signed (to_z-of_z c.ranges.z)) c.put_signed-b.ensures
 
 put-requires : tie.Need-put-requires
 put-requires c κs =
     let n = c.before.before.before.before in
-    room_after (10 ∷ []) (behind_key n.before.before.before.before) (number n)
+    room_after (10 ∷ []) (behind_key n.before.before.before.before.before) (number n)
 
 returns : tie.Need-returns
 returns c =
     let n = c.before.before.before.before.before.before.before in
     let k = n.before.before.before.before in
-    puts_then _ k.before.before.before.before.requires k.put-a.ensures (puts_then _ (behind_key k) (number n) c.before.before.put.ensures)
+    puts_then _ k.requires k.put-a.ensures (puts_then _ (behind_key k.before) (number n) c.put.ensures)
 
 pub put_signed_line_spec : {M : Type 1} → statement M
-put_signed_line_spec = tie.close (tie.spec put-a-requires put_signed-b-requires (λ c. search rules) put-requires (λ c. search rules) returns)
+put_signed_line_spec = tie.close (tie.spec put-a-requires put_signed-b-requires put-requires (λ c. search rules) returns)

@@ -14,7 +14,7 @@ put-a-requires c κs =
     room_first s.args.key.now (s.args.word.now ++ (10 ∷ [])) _ _ s.requires
 
 -- what follows the key has room
-behind_key : (c : tie.After-put-a) → c.put-a.result + length (c.before.before.before.before.before.args.word.now ++ (10 ∷ [])) ≤ length c.put-a.new.0
+behind_key : (c : tie.After-put-a) → c.put-a.result + length (c.args.word.now ++ (10 ∷ [])) ≤ length c.put-a.new.out
 behind_key c =
     let s = c.before.before.before.before.before in
     room_after _ s.requires c.put-a.ensures
@@ -22,18 +22,18 @@ behind_key c =
 put-b-requires : tie.Need-put-b-requires
 put-b-requires c κs =
     let k = c.before.before.before in
-    room_first k.before.before.before.before.before.args.word.now (10 ∷ []) _ _ (behind_key k)
+    room_first k.args.word.now (10 ∷ []) _ _ (behind_key k)
 
 put-requires : tie.Need-put-requires
 put-requires c κs =
     let k = c.before.before.before.before.before.before.before.before in
-    room_after _ (behind_key k) c.before.before.before.before.put-b.ensures
+    room_after _ (behind_key k.before) c.put-b.ensures
 
 returns : tie.Need-returns
 returns c =
     let w = c.before.before.before.before.before.before.before in
     let k = w.before.before.before.before in
-    puts_then _ k.before.before.before.before.before.requires k.put-a.ensures (puts_then _ (behind_key k) w.put-b.ensures c.before.before.put.ensures)
+    puts_then _ k.requires k.put-a.ensures (puts_then _ (behind_key k.before) w.put-b.ensures c.put.ensures)
 
 pub put_word_line_spec : {M : Type 1} → statement M
-put_word_line_spec = tie.close (tie.spec put-a-requires put-b-requires (λ c. search rules) put-requires (λ c. search rules) returns)
+put_word_line_spec = tie.close (tie.spec put-a-requires put-b-requires put-requires (λ c. search rules) returns)

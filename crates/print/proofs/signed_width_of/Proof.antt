@@ -10,17 +10,17 @@ use Rattle.print.proofs.signed_width_of.Statement.{statement}
 use Rattle.print.proofs.signed_width_of.Tie as tie
 
 overflow_add-result : tie.Need-overflow_add-result
-overflow_add-result c = omega (arith, c.width_of_lem.ensures, width_most c.before.magnitude.result)
+overflow_add-result c = omega (arith, c.width_of.ensures, width_most c.magnitude.result)
 
 returns-then-z-lt0 : tie.Need-returns-then-z-lt0
 returns-then-z-lt0 c =
     let s = c.before.before.before in
-    omega (arith, c.width_of_lem.ensures, ap width (passed s.ranges.z c.before.magnitude.ensures), width_below s.args.z (below s.ranges.z c.before.before.if-z-lt0.true))
+    omega (arith, c.width_of.ensures, ap width (passed s.ranges.z c.magnitude.ensures), width_below s.args.z (below s.ranges.z c.if-z-lt0.true))
 
 returns : tie.Need-returns
 returns c =
     let s = c.before.before.before in
-    c.width_of-2.ensures ∙ ap width (passed s.ranges.z c.before.magnitude-2.ensures) ∙ sym (width_above s.args.z (above s.ranges.z c.before.before.if-z-lt0.false))
+    c.width_of-2.ensures ∙ ap width (passed s.ranges.z c.magnitude-2.ensures) ∙ sym (width_above s.args.z (above s.ranges.z c.if-z-lt0.false))
 
 pub signed_width_of_spec : {M : Type 1} → statement M
 signed_width_of_spec = tie.close (tie.spec (λ c κs. search rules) (λ c κs. search rules) overflow_add-result returns-then-z-lt0 (λ c κs. search rules) (λ c κs. search rules) returns)

@@ -26,7 +26,7 @@ bounds-key-k : tie.Need-bounds-key-k invariant-loop-k decreases-loop-k
 bounds-key-k c = search rules
 
 returns-then-t-k : tie.Need-returns-then-t-k invariant-loop-k decreases-loop-k
-returns-then-t-k c = record { holds = λ e. absurd (let z : ◌≡◌ {A = ℕ} 0 1 = cc in omega arith); fails = λ _. unkeyed _ _ _ c.before.before.before.before.loop-k.invariant c.before.before.before.before.before.if-t-n.false c.before.before.before.loop-k-test.true c.if-t-k.true }
+returns-then-t-k c = record { holds = λ e. absurd (let z : ◌≡◌ {A = ℕ} 0 1 = cc in omega arith); fails = λ _. unkeyed _ _ _ c.loop-k.invariant c.if-t-n.false c.loop-k-test.true c.if-t-k.true }
 
 overflow_add-k : tie.Need-overflow_add-k invariant-loop-k decreases-loop-k
 overflow_add-k c = search rules
@@ -35,23 +35,12 @@ loop-k-smaller : tie.Need-loop-k-smaller invariant-loop-k decreases-loop-k
 loop-k-smaller c = search rules
 
 loop-k-preserved : tie.Need-loop-k-preserved invariant-loop-k decreases-loop-k
-loop-k-preserved c = alike_more _ _ _ c.before.before.before.before.loop-k.invariant c.before.before.before.before.before.if-t-n.false c.before.before.before.loop-k-test.true c.if-t-k.false
+loop-k-preserved c = alike_more _ _ _ c.loop-k.invariant c.if-t-n.false c.loop-k-test.true c.if-t-k.false
 
 returns : tie.Need-returns invariant-loop-k decreases-loop-k
-returns c = record { holds = λ _. all_keyed _ _ _ c.before.loop-k.invariant c.before.before.if-t-n.false c.loop-k-test.false; fails = λ e. absurd (let z : ◌≡◌ {A = ℕ} 0 1 = cc in omega arith) }
+returns c = record { holds = λ _. all_keyed _ _ _ c.loop-k.invariant c.if-t-n.false c.loop-k-test.false; fails = λ e. absurd (let z : ◌≡◌ {A = ℕ} 0 1 = cc in omega arith) }
 
 pub begins_spec : {M : Type 1} → statement M
 begins_spec =
     tie.close
-    (tie.spec
-    invariant-loop-k
-    decreases-loop-k
-    returns-then-t-n
-    loop-k-init
-    bounds-t-k
-    bounds-key-k
-    returns-then-t-k
-    overflow_add-k
-    loop-k-smaller
-    loop-k-preserved
-    returns)
+    (tie.spec invariant-loop-k decreases-loop-k returns-then-t-n loop-k-init bounds-t-k bounds-key-k returns-then-t-k overflow_add-k loop-k-smaller loop-k-preserved returns)

@@ -11,10 +11,10 @@ wide-requires : tie.Need-wide-requires
 wide-requires c κs = search rules
 
 returns-then-c-le57 : tie.Need-returns-then-c-le57
-returns-then-c-le57 c = nibble_low _ _ c.before.before.if-c-lt48.false c.before.if-c-le57.true c.wide.ensures
+returns-then-c-le57 c = nibble_low _ _ c.if-c-lt48.false c.if-c-le57.true c.wide.ensures
 
 returns-then-c-lt97 : tie.Need-returns-then-c-lt97
-returns-then-c-lt97 c = nibble_none _ (between _ c.before.if-c-le57.false c.if-c-lt97.true)
+returns-then-c-lt97 c = nibble_none _ (between _ c.if-c-le57.false c.if-c-lt97.true)
 
 overflow_sub-c-then-c-le102 : tie.Need-overflow_sub-c-then-c-le102
 overflow_sub-c-then-c-le102 c = search rules
@@ -23,7 +23,7 @@ wide-requires-then-c-le102 : tie.Need-wide-requires-then-c-le102
 wide-requires-then-c-le102 c κs = search rules
 
 returns-then-c-le102 : tie.Need-returns-then-c-le102
-returns-then-c-le102 c = nibble_high _ _ c.before.before.if-c-lt97.false c.before.if-c-le102.true c.wide-then-c-le102.ensures
+returns-then-c-le102 c = nibble_high _ _ c.if-c-lt97.false c.if-c-le102.true c.wide-then-c-le102.ensures
 
 returns : tie.Need-returns
 returns c = nibble_none _ (beyond _ c.if-c-le102.false)
@@ -31,12 +31,4 @@ returns c = nibble_none _ (beyond _ c.if-c-le102.false)
 pub hex_digit_spec : {M : Type 1} → statement M
 hex_digit_spec =
     tie.close
-    (tie.spec
-    returns-then-c-lt48
-    wide-requires
-    returns-then-c-le57
-    returns-then-c-lt97
-    overflow_sub-c-then-c-le102
-    wide-requires-then-c-le102
-    returns-then-c-le102
-    returns)
+    (tie.spec returns-then-c-lt48 wide-requires returns-then-c-le57 returns-then-c-lt97 overflow_sub-c-then-c-le102 wide-requires-then-c-le102 returns-then-c-le102 returns)

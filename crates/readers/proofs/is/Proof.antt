@@ -10,7 +10,7 @@ begins-requires : tie.Need-begins-requires
 begins-requires c κs = search rules
 
 returns : tie.Need-returns
-returns c = whole_word _ _ _ c.before.if-t-word.false c.begins.ensures
+returns c = whole_word _ _ _ c.if-t-word.false c.begins.ensures
 
 pub is_spec : {M : Type 1} → statement M
 is_spec = tie.close (tie.spec returns-then-t-word begins-requires returns)

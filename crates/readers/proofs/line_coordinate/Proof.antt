@@ -15,14 +15,14 @@ use Rattle.readers.proofs.line_coordinate.Statement.{statement}
 use Rattle.readers.proofs.line_coordinate.Tie as tie
 
 -- where the value stands
-stands : (c : tie.Else-not-v) → (let v = c.before.before.value_at-v.result in (v.from ≤ v.end) × (v.end < length c.before.before.before.before.before.args.s.now))
-stands c = let w = c.before.before.value_at-v.ensures.there (not-false _ c.if-not-v.false) in (w.0, w.1)
+stands : (c : tie.Else-not-v) → (let v = c.value_at-v.result in (v.from ≤ v.end) × (v.end < length c.args.s.now))
+stands c = let w = c.value_at-v.ensures.there (not-false _ c.if-not-v.false) in (w.0, w.1)
 
 value_at-v-requires : tie.Need-value_at-v-requires
 value_at-v-requires c κs = search rules
 
 returns-then-not-v : tie.Need-returns-then-not-v
-returns-then-not-v c = tells_51 (coordinate 1000000) (pos 0) _ _ _ _ c.before.before.value_at-v.ensures (not-true _ c.if-not-v.true)
+returns-then-not-v c = tells_51 (coordinate 1000000) (pos 0) _ _ _ _ c.value_at-v.ensures (not-true _ c.if-not-v.true)
 
 slice_bounds-parse_coordinate-count : tie.Need-slice_bounds-parse_coordinate-count
 slice_bounds-parse_coordinate-count c = (stands c).0
@@ -37,24 +37,15 @@ parse_coordinate-n-requires : tie.Need-parse_coordinate-n-requires
 parse_coordinate-n-requires c κs = search rules
 
 returns-then-not-n : tie.Need-returns-then-not-n
-returns-then-not-n c = tells_52 (coordinate 1000000) (pos 0) _ _ _ _ c.before.before.before.before.before.before.value_at-v.ensures (not-false _ c.before.before.before.before.if-not-v.false) ((coordinate_told (coordinate 1000000) _ _ c.before.before.parse_coordinate-n.ensures).1 (not-true _ c.if-not-n.true))
+returns-then-not-n c = tells_52 (coordinate 1000000) (pos 0) _ _ _ _ c.value_at-v.ensures (not-false _ c.if-not-v.false) ((coordinate_told (coordinate 1000000) _ _ c.parse_coordinate-n.ensures).1 (not-true _ c.if-not-n.true))
 
 overflow_add-result : tie.Need-overflow_add-result
 overflow_add-result c = omega (arith, (stands c.before.before.before.before).1)
 
 returns : tie.Need-returns
-returns c = let w = (coordinate_told (coordinate 1000000) _ _ c.before.before.before.parse_coordinate-n.ensures).0 (not-false _ c.before.if-not-n.false) in let f : SFits w32 c.before.before.before.parse_coordinate-n.result.value = record { sfits = c.struct_told-1.given.1.0.1 } in tells_value (coordinate 1000000) (pos 0) _ _ _ _ c.before.before.before.before.before.before.before.value_at-v.ensures (not-false _ c.before.before.before.before.before.if-not-v.false) _ w.0 (to_z-of_z f ∙ w.1)
+returns c = let w = (coordinate_told (coordinate 1000000) _ _ c.parse_coordinate-n.ensures).0 (not-false _ c.if-not-n.false) in let f : SFits w32 c.parse_coordinate-n.result.value = record { sfits = c.struct_told-1.given.1.0.1 } in tells_value (coordinate 1000000) (pos 0) _ _ _ _ c.value_at-v.ensures (not-false _ c.if-not-v.false) _ w.0 (to_z-of_z f ∙ w.1)
 
 pub line_coordinate_spec : {M : Type 1} → statement M
 line_coordinate_spec =
     tie.close
-    (tie.spec
-    value_at-v-requires
-    returns-then-not-v
-    slice_bounds-parse_coordinate-count
-    slice_bounds-parse_coordinate-start
-    slice_bounds-parse_coordinate-end
-    parse_coordinate-n-requires
-    returns-then-not-n
-    overflow_add-result
-    returns)
+    (tie.spec value_at-v-requires returns-then-not-v slice_bounds-parse_coordinate-count slice_bounds-parse_coordinate-start slice_bounds-parse_coordinate-end parse_coordinate-n-requires returns-then-not-n overflow_add-result returns)

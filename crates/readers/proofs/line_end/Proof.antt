@@ -18,13 +18,13 @@ bounds-s-i : tie.Need-bounds-s-i invariant-loop-i decreases-loop-i
 bounds-s-i c = search rules
 
 returns-then-s-i-eq10 : tie.Need-returns-then-s-i-eq10 invariant-loop-i decreases-loop-i
-returns-then-s-i-eq10 c = ends_found _ _ _ c.before.before.before.loop-i.invariant c.before.before.loop-i-test.true c.if-s-i-eq10.true
+returns-then-s-i-eq10 c = ends_found _ _ _ c.loop-i.invariant c.loop-i-test.true c.if-s-i-eq10.true
 
 overflow_sub-i : tie.Need-overflow_sub-i invariant-loop-i decreases-loop-i
 overflow_sub-i c = search rules
 
 returns-then-i-at-eq40 : tie.Need-returns-then-i-at-eq40 invariant-loop-i decreases-loop-i
-returns-then-i-at-eq40 c = ends_long _ _ _ c.before.before.before.before.loop-i.invariant c.before.before.before.loop-i-test.true c.before.if-s-i-eq10.false c.if-i-at-eq40.true
+returns-then-i-at-eq40 c = ends_long _ _ _ c.loop-i.invariant c.loop-i-test.true c.if-s-i-eq10.false c.if-i-at-eq40.true
 
 overflow_add-i : tie.Need-overflow_add-i invariant-loop-i decreases-loop-i
 overflow_add-i c = search rules
@@ -33,23 +33,12 @@ loop-i-smaller : tie.Need-loop-i-smaller invariant-loop-i decreases-loop-i
 loop-i-smaller c = search rules
 
 loop-i-preserved : tie.Need-loop-i-preserved invariant-loop-i decreases-loop-i
-loop-i-preserved c = passed_more _ _ _ c.before.before.before.before.loop-i.invariant c.before.before.before.loop-i-test.true c.if-i-at-eq40.false c.before.if-s-i-eq10.false
+loop-i-preserved c = passed_more _ _ _ c.loop-i.invariant c.loop-i-test.true c.if-i-at-eq40.false c.if-s-i-eq10.false
 
 returns : tie.Need-returns invariant-loop-i decreases-loop-i
-returns c = ends_short _ _ _ c.before.loop-i.invariant c.loop-i-test.false
+returns c = ends_short _ _ _ c.loop-i.invariant c.loop-i-test.false
 
 pub line_end_spec : {M : Type 1} → statement M
 line_end_spec =
     tie.close
-    (tie.spec
-    invariant-loop-i
-    decreases-loop-i
-    loop-i-init
-    bounds-s-i
-    returns-then-s-i-eq10
-    overflow_sub-i
-    returns-then-i-at-eq40
-    overflow_add-i
-    loop-i-smaller
-    loop-i-preserved
-    returns)
+    (tie.spec invariant-loop-i decreases-loop-i loop-i-init bounds-s-i returns-then-s-i-eq10 overflow_sub-i returns-then-i-at-eq40 overflow_add-i loop-i-smaller loop-i-preserved returns)

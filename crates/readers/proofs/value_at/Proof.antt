@@ -8,7 +8,7 @@ line_end-e-requires : tie.Need-line_end-e-requires
 line_end-e-requires c κs = search rules
 
 returns-then-e-s : tie.Need-returns-then-e-s
-returns-then-e-s c = value_missing _ _ _ _ c.before.line_end-e.ensures c.if-e-s.true
+returns-then-e-s c = value_missing _ _ _ _ c.line_end-e.ensures c.if-e-s.true
 
 slice_bounds-begins-count : tie.Need-slice_bounds-begins-count
 slice_bounds-begins-count c = search rules
@@ -23,24 +23,15 @@ begins-requires : tie.Need-begins-requires
 begins-requires c κs = search rules
 
 returns-then-not-begins : tie.Need-returns-then-not-begins
-returns-then-not-begins c = value_other _ _ _ _ c.before.before.before.before.line_end-e.ensures c.before.before.before.if-e-s.false (c.before.begins.ensures.fails (not-true _ c.if-not-begins.true))
+returns-then-not-begins c = value_other _ _ _ _ c.line_end-e.ensures c.if-e-s.false (c.begins.ensures.fails c.if-not-begins.true)
 
 overflow_add-result : tie.Need-overflow_add-result
 overflow_add-result c = search rules
 
 returns : tie.Need-returns
-returns c = value_there _ _ _ _ c.before.before.before.before.line_end-e.ensures c.before.before.before.if-e-s.false (c.before.begins.ensures.holds (not-false _ c.if-not-begins.false))
+returns c = value_there _ _ _ _ c.line_end-e.ensures c.if-e-s.false (c.begins.ensures.holds c.if-not-begins.false)
 
 pub value_at_spec : {M : Type 1} → statement M
 value_at_spec =
     tie.close
-    (tie.spec
-    line_end-e-requires
-    returns-then-e-s
-    slice_bounds-begins-count
-    slice_bounds-begins-start
-    slice_bounds-begins-end
-    begins-requires
-    returns-then-not-begins
-    overflow_add-result
-    returns)
+    (tie.spec line_end-e-requires returns-then-e-s slice_bounds-begins-count slice_bounds-begins-start slice_bounds-begins-end begins-requires returns-then-not-begins overflow_add-result returns)

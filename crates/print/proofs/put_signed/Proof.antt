@@ -39,7 +39,7 @@ returns-then-z-lt0 c =
     let p = m.before.before.before.before in
     let t = p.before.before.before in
     let e = ap decimal (passed t.ranges.z m.magnitude.ensures) in
-    puts_text (sym (minus t.before)) (puts_then _ (with_minus t) p.put-a.ensures (puts_text e c.put_decimal.ensures))
+    puts_text (sym (minus t.before)) (puts_then _ (with_minus t.before) p.put-a.ensures (puts_text e c.put_decimal.ensures))
 
 plain : (c : tie.Else-z-lt0) (m : ℕ) → m ≡ nat_abs c.args.z → signed c.args.z ≡ decimal m
 plain c m e = let s = c.before.before in rw e (signed_above s.args.z (above s.ranges.z c.if-z-lt0.false))

@@ -35,13 +35,13 @@ number c = puts_text (ap signed (to_z-of_z c.ranges.z)) c.put_signed-b.ensures
 put-requires : tie.Need-put-requires
 put-requires c κs =
     let n = c.before.before.before.before in
-    room_after (10 ∷ []) (behind_key n.before.before.before.before.before) (number n)
+    room_after (10 ∷ []) (behind_key n.before.before.before.before.before) (number n.before)
 
 returns : tie.Need-returns
 returns c =
     let n = c.before.before.before.before.before.before.before in
     let k = n.before.before.before.before in
-    puts_then _ k.requires k.put-a.ensures (puts_then _ (behind_key k.before) (number n) c.put.ensures)
+    puts_then _ k.requires k.put-a.ensures (puts_then _ (behind_key k.before) (number n.before) c.put.ensures)
 
 pub put_signed_line_spec : {M : Type 1} → statement M
 put_signed_line_spec = tie.close (tie.spec put-a-requires put_signed-b-requires put-requires (λ c. search rules) returns)

@@ -10,45 +10,37 @@ use borrow.Author.Rules.{rules}
 use Rattle.quick.proofs.bits_to_feed.Statement.{statement}
 use Rattle.quick.proofs.bits_to_feed.Tie as tie
 
-no-number-requires : tie.Need-no-number-requires
-no-number-requires c κs = search rules
+no_number-requires : tie.Need-no_number-requires
+no_number-requires c κs = search rules
+
+returns-then-t-lt17 : tie.Need-returns-then-t-lt17
+returns-then-t-lt17 c = no_number _ _ _ c.no_number.ensures
+
+bounds-t-16 : tie.Need-bounds-t-16
+bounds-t-16 c = search rules
+
+no_number-requires-then-t-ne10 : tie.Need-no_number-requires-then-t-ne10
+no_number-requires-then-t-ne10 c κs = search rules
+
+returns-then-t-ne10 : tie.Need-returns-then-t-ne10
+returns-then-t-ne10 c = no_number _ _ _ c.no_number-then-t-ne10.ensures
+
+slice_bounds-parse_bits-end : tie.Need-slice_bounds-parse_bits-end
+slice_bounds-parse_bits-end c = let t = c.args.t.now in let h : 16 ≤ length t = search rules in sym (length-take-le 16 t h)
+
+parse_bits-n-requires : tie.Need-parse_bits-n-requires
+parse_bits-n-requires c κs = search rules
 
 returns : tie.Need-returns
-returns c = no_number _ _ _ c.no_number.ensures
-
-shared-slice-read-if2 : tie.Need-shared-slice-read-if2
-shared-slice-read-if2 c = search rules
-
-no-number-requires-2 : tie.Need-no-number-requires-2
-no-number-requires-2 c κs = search rules
-
-returns-2 : tie.Need-returns-2
-returns-2 c = no_number _ _ _ c.no-number2.ensures
-
-slice-aggregate-parse-bits : tie.Need-slice-aggregate-parse-bits
-slice-aggregate-parse-bits c = let t = c.before.before.before.before.before.args.t.now in let h : 16 ≤ length t = search rules in sym (length-take-le 16 t h)
-
-parse-bits-requires : tie.Need-parse-bits-requires
-parse-bits-requires c κs = search rules
-
-returns-3 : tie.Need-returns-3
-returns-3 c =
-    let h = c.before.before.before.before.if1.false in (
+returns c =
+    let h = c.if-t-lt17.false in (
       omega (arith, h),
       λ e.
-          let w = (number_told bits _ _ c.parse-bits.ensures).0 e in
-          record { width = 16; counts = omega arith; within = omega (arith, h); feed = c.before.before.if2.false; form = w.0; value = w.1 },
+          let w = (number_told bits _ _ c.parse_bits-n.ensures).0 e in
+          record { width = 16; counts = omega arith; within = omega (arith, h); feed = c.if-t-ne10.false; form = w.0; value = w.1 },
     )
 
 pub bits_to_feed_spec : {M : Type 1} → statement M
 bits_to_feed_spec =
     tie.close
-    (tie.spec
-    no-number-requires
-    returns
-    shared-slice-read-if2
-    no-number-requires-2
-    returns-2
-    slice-aggregate-parse-bits
-    parse-bits-requires
-    returns-3)
+    (tie.spec no_number-requires returns-then-t-lt17 bounds-t-16 no_number-requires-then-t-ne10 returns-then-t-ne10 slice_bounds-parse_bits-end parse_bits-n-requires returns)

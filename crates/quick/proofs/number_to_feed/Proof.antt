@@ -10,108 +10,86 @@ use borrow.Author.Rules.{rules}
 use Rattle.quick.proofs.number_to_feed.Statement.{statement}
 use Rattle.quick.proofs.number_to_feed.Tie as tie
 
-abbrev invariant-loop : tie.invariant-loop
-invariant-loop t most a₀ i₀ a i = Sofar 10 t a i × (a ≤ most)
+abbrev invariant-loop-i : tie.invariant-loop-i
+invariant-loop-i t most a₀ i₀ a i = Sofar 10 t a i × (a ≤ most)
 
-abbrev decreases-loop : tie.decreases-loop
-decreases-loop t most a₀ i₀ a i = length t - i
+abbrev decreases-loop-i : tie.decreases-loop-i
+decreases-loop-i t most a₀ i₀ a i = length t - i
 
-loop-holds : tie.Need-loop-init invariant-loop decreases-loop
-loop-holds c = (sofar_none 10 _, search rules)
+loop-i-init : tie.Need-loop-i-init invariant-loop-i decreases-loop-i
+loop-i-init c = (sofar_none 10 _, search rules)
 
-shared-slice-read-c : tie.Need-shared-slice-read-c invariant-loop decreases-loop
-shared-slice-read-c c = search rules
+bounds-t-i : tie.Need-bounds-t-i invariant-loop-i decreases-loop-i
+bounds-t-i c = search rules
 
-slice-aggregate-led : tie.Need-slice-aggregate-led invariant-loop decreases-loop
-slice-aggregate-led c = sym (length-take-le _ _ c.before.before.before.before.loop.invariant.0.within)
+slice_bounds-led-end : tie.Need-slice_bounds-led-end invariant-loop-i decreases-loop-i
+slice_bounds-led-end c = sym (length-take-le _ _ c.loop-i.invariant.0.within)
 
-led-requires : tie.Need-led-requires invariant-loop decreases-loop
+led-requires : tie.Need-led-requires invariant-loop-i decreases-loop-i
 led-requires c κs = search rules
 
-add-t13 : tie.Need-overflow-add-t13 invariant-loop decreases-loop
-add-t13 c = search rules
+overflow_add-result : tie.Need-overflow_add-result invariant-loop-i decreases-loop-i
+overflow_add-result c = search rules
 
-returns : tie.Need-returns invariant-loop decreases-loop
-returns c =
-    let l = c.before.before.before.before.before.loop in
-    let h = c.before.before.before.before.loop-test.true in
-    (omega (arith, h), λ e. number_leads _ _ c.before.before.before.before.before.before.before.requires _ _ l.invariant.0 h c.before.before.if1.true l.invariant.1 (c.led.ensures.holds e))
+returns-then-c-eq10 : tie.Need-returns-then-c-eq10 invariant-loop-i decreases-loop-i
+returns-then-c-eq10 c =
+    let l = c.loop-i in
+    let h = c.loop-i-test.true in
+    (omega (arith, h), λ e. number_leads _ _ c.requires _ _ l.invariant.0 h c.if-c-eq10.true l.invariant.1 (c.led.ensures.holds e))
 
-no-number-requires : tie.Need-no-number-requires invariant-loop decreases-loop
-no-number-requires c κs = search rules
+no_number-requires : tie.Need-no_number-requires invariant-loop-i decreases-loop-i
+no_number-requires c κs = search rules
 
-returns-2 : tie.Need-returns-2 invariant-loop decreases-loop
-returns-2 c = no_number _ _ _ c.no_number.ensures
+returns-then-c-lt48 : tie.Need-returns-then-c-lt48 invariant-loop-i decreases-loop-i
+returns-then-c-lt48 c = no_number _ _ _ c.no_number.ensures
 
-no-number-requires-2 : tie.Need-no-number-requires-2 invariant-loop decreases-loop
-no-number-requires-2 c κs = search rules
+no_number-requires-then-c-gt57 : tie.Need-no_number-requires-then-c-gt57 invariant-loop-i decreases-loop-i
+no_number-requires-then-c-gt57 c κs = search rules
 
-returns-3 : tie.Need-returns-3 invariant-loop decreases-loop
-returns-3 c = no_number _ _ _ c.no-number2.ensures
+returns-then-c-gt57 : tie.Need-returns-then-c-gt57 invariant-loop-i decreases-loop-i
+returns-then-c-gt57 c = no_number _ _ _ c.no_number-then-c-gt57.ensures
 
-mul-a : tie.Need-overflow-mul-a invariant-loop decreases-loop
-mul-a c = search rules
+overflow_mul-a : tie.Need-overflow_mul-a invariant-loop-i decreases-loop-i
+overflow_mul-a c = search rules
 
-wide-requires : tie.Need-wide-requires invariant-loop decreases-loop
+wide-requires : tie.Need-wide-requires invariant-loop-i decreases-loop-i
 wide-requires c κs = search rules
 
-add_a : tie.Need-overflow-add-a invariant-loop decreases-loop
-add_a c = omega (arith, c.wide.ensures, c.before.before.before.before.shared-slice-known2.given c.before.before.before.before.before.before.loop.i)
+overflow_add-a : tie.Need-overflow_add-a invariant-loop-i decreases-loop-i
+overflow_add-a c = omega (arith, c.wide.ensures, c.shared_slice_known-in-loop-i-1.given c.loop-i.i)
 
-no-number-requires-3 : tie.Need-no-number-requires-3 invariant-loop decreases-loop
-no-number-requires-3 c κs = search rules
+no_number-requires-then-most-a : tie.Need-no_number-requires-then-most-a invariant-loop-i decreases-loop-i
+no_number-requires-then-most-a c κs = search rules
 
-returns-4 : tie.Need-returns-4 invariant-loop decreases-loop
-returns-4 c = no_number _ _ _ c.no-number3.ensures
+returns-then-most-a : tie.Need-returns-then-most-a invariant-loop-i decreases-loop-i
+returns-then-most-a c = no_number _ _ _ c.no_number-then-most-a.ensures
 
-add-i : tie.Need-overflow-add-i invariant-loop decreases-loop
-add-i c = search rules
+overflow_add-i : tie.Need-overflow_add-i invariant-loop-i decreases-loop-i
+overflow_add-i c = search rules
 
-loop-less : tie.Need-loop-smaller invariant-loop decreases-loop
-loop-less c = search rules
+loop-i-smaller : tie.Need-loop-i-smaller invariant-loop-i decreases-loop-i
+loop-i-smaller c = search rules
 
-loop-again : tie.Need-loop-preserved invariant-loop decreases-loop
-loop-again c =
+loop-i-preserved : tie.Need-loop-i-preserved invariant-loop-i decreases-loop-i
+loop-i-preserved c =
     let w = c.before in
-    let l = w.before.before.before.before.before.before.loop in
-    let t = w.before.before.before.before.before.before.before.before.args.t.now in
+    let l = w.loop-i in
+    let t = w.args.t.now in
     let b = get_or t l.i 0 in
-    let low : 48 ≤ b = w.before.before.if2.false in
-    let high : b ≤ 57 = w.before.if3.false in (
+    let low : 48 ≤ b = w.if-c-lt48.false in
+    let high : b ≤ 57 = w.if-c-gt57.false in (
       subst (λ (v : ℕ). Sofar 10 t (l.a * 10 + v) (l.i + 1)) (unglyph_low b (omega arith) ∙ sym w.wide.ensures)
-          (sofar_more 10 t l.a l.i l.invariant.0 w.before.before.before.before.before.loop-test.true (digit_make b low high)),
-      c.if4.false,
+          (sofar_more 10 t l.a l.i l.invariant.0 w.loop-i-test.true (digit_make b low high)),
+      c.if-most-a.false,
     )
 
-no-number-requires-4 : tie.Need-no-number-requires-4 invariant-loop decreases-loop
-no-number-requires-4 c κs = search rules
+no_number-requires-2 : tie.Need-no_number-requires-2 invariant-loop-i decreases-loop-i
+no_number-requires-2 c κs = search rules
 
-returns-5 : tie.Need-returns-5 invariant-loop decreases-loop
-returns-5 c = no_number _ _ _ c.no-number4.ensures
+returns : tie.Need-returns invariant-loop-i decreases-loop-i
+returns c = no_number _ _ _ c.no_number-2.ensures
 
 pub number_to_feed_spec : {M : Type 1} → statement M
 number_to_feed_spec =
     tie.close
-    (tie.spec
-    invariant-loop
-    decreases-loop
-    loop-holds
-    shared-slice-read-c
-    slice-aggregate-led
-    led-requires
-    add-t13
-    returns
-    no-number-requires
-    returns-2
-    no-number-requires-2
-    returns-3
-    mul-a
-    wide-requires
-    add_a
-    no-number-requires-3
-    returns-4
-    add-i
-    loop-less
-    loop-again
-    no-number-requires-4
-    returns-5)
+    (tie.spec invariant-loop-i decreases-loop-i loop-i-init bounds-t-i slice_bounds-led-end led-requires overflow_add-result returns-then-c-eq10 no_number-requires returns-then-c-lt48 no_number-requires-then-c-gt57 returns-then-c-gt57 overflow_mul-a wide-requires overflow_add-a no_number-requires-then-most-a returns-then-most-a overflow_add-i loop-i-smaller loop-i-preserved no_number-requires-2 returns)

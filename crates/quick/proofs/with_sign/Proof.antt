@@ -10,17 +10,17 @@ use borrow.Author.Rules.{rules}
 use Rattle.quick.proofs.with_sign.Statement.{statement}
 use Rattle.quick.proofs.with_sign.Tie as tie
 
-cast-z : tie.Need-overflow-cast-z
-cast-z c = search rules
+overflow_cast-z : tie.Need-overflow_cast-z
+overflow_cast-z c = search rules
+
+returns-then-minus-eq0 : tie.Need-returns-then-minus-eq0
+returns-then-minus-eq0 c = to_z_pos w32 (omega (arith, c.requires)) ∙ ap (λ (m : ℕ). with_sign m c.args.n) (sym c.if-minus-eq0.true)
+
+overflow_sub-result : tie.Need-overflow_sub-result
+overflow_sub-result c = neg_fits _ c.requires
 
 returns : tie.Need-returns
-returns c = to_z_pos w32 (omega (arith, c.before.requires)) ∙ ap (λ (m : ℕ). with_sign m c.before.args.n) (sym c.if1.true)
-
-sub-result : tie.Need-overflow-sub-result
-sub-result c = neg_fits _ c.before.requires
-
-returns-2 : tie.Need-returns-2
-returns-2 c = neg_held _ c.before.requires ∙ sign_some _ _ c.if1.false
+returns c = neg_held _ c.requires ∙ sign_some _ _ c.if-minus-eq0.false
 
 pub with_sign_spec : {M : Type 1} → statement M
-with_sign_spec = tie.close (tie.spec cast-z returns sub-result returns-2)
+with_sign_spec = tie.close (tie.spec overflow_cast-z returns-then-minus-eq0 overflow_sub-result returns)

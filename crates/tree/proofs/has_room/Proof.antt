@@ -5,8 +5,8 @@ use Rattle.tree.proofs.Flags.{flags}
 use Rattle.tree.proofs.has_room.Statement.{statement}
 use Rattle.tree.proofs.has_room.Tie as tie
 
-returns : tie.Need-returns
-returns c =
+returns-then-l-nodes : tie.Need-returns-then-l-nodes
+returns-then-l-nodes c =
     decides_no
     (λ h. ⊎_elim (λ w. omega arith)
     (⊎_elim (λ w. omega (arith, flags))
@@ -14,10 +14,10 @@ returns c =
     (⊎_elim (λ w. omega (arith, flags))
     (⊎_elim (λ w. omega (arith, flags))
     (⊎_elim (λ w. omega (arith, flags)) (⊎_elim (λ w. omega (arith, flags)) (⊎_elim (λ w. omega (arith, flags)) (λ w. omega (arith, flags)))))))))
-    c.if1.branch)
+    c.if-l-nodes.branch)
 
-returns-2 : tie.Need-returns-2
-returns-2 c = decides_yes (omega (arith, flags))
+returns : tie.Need-returns
+returns c = decides_yes (omega (arith, flags))
 
 pub has_room_spec : {M : Type 1} → statement M
-has_room_spec = tie.close (tie.spec returns returns-2)
+has_room_spec = tie.close (tie.spec returns-then-l-nodes returns)

@@ -17,99 +17,81 @@ use Rattle.tree.proofs.joined_boxes.Tie as tie
 abbrev entry_box : List ℤ → List ℤ → List ℤ → List ℤ → List ℕ → ℕ → Box
 entry_box x_lo x_hi y_lo y_hi entries i = box_at (sides x_lo x_hi y_lo y_hi) (get_or entries i 0)
 
-abbrev invariant-loop : tie.invariant-loop
-invariant-loop x_lo x_hi y_lo y_hi entries from count all₀ k₀ all k = Joining join_boxes (entry_box x_lo x_hi y_lo y_hi entries) from count all k
+abbrev invariant-loop-k : tie.invariant-loop-k
+invariant-loop-k x_lo x_hi y_lo y_hi entries from count all₀ k₀ all k = Joining join_boxes (entry_box x_lo x_hi y_lo y_hi entries) from count all k
 
-abbrev decreases-loop : tie.decreases-loop
-decreases-loop x_lo x_hi y_lo y_hi entries from count all₀ k₀ all k = count - k
+abbrev decreases-loop-k : tie.decreases-loop-k
+decreases-loop-k x_lo x_hi y_lo y_hi entries from count all₀ k₀ all k = count - k
 
-mul-wide16 : tie.Need-overflow-mul-wide16 invariant-loop decreases-loop
-mul-wide16 c = omega (arith, c.before.requires.0.0.inside, c.before.requires.0.0.some)
+offset_bounds-entries-from : tie.Need-offset_bounds-entries-from invariant-loop-k decreases-loop-k
+offset_bounds-entries-from c = omega (arith, c.requires.0.0.inside, c.requires.0.0.some)
 
-shared-slice-read-wide16 : tie.Need-shared-slice-read-wide16 invariant-loop decreases-loop
-shared-slice-read-wide16 c = omega (arith, c.before.before.requires.0.0.inside, c.before.before.requires.0.0.some)
+bounds-entries-from : tie.Need-bounds-entries-from invariant-loop-k decreases-loop-k
+bounds-entries-from c = omega (arith, c.requires.0.0.inside, c.requires.0.0.some)
 
-wide16-requires : tie.Need-wide16-requires invariant-loop decreases-loop
+wide16-requires : tie.Need-wide16-requires invariant-loop-k decreases-loop-k
 wide16-requires c κs = tt
 
 -- an entry of the run is an index of each column
-known : (s : tie.Start invariant-loop decreases-loop) (i : ℕ) {e : ℕ} → e ≡ get_or s.args.entries.now i 0 → s.args.from ≤ i → i < s.args.from + s.args.count →
+known : (s : tie.Start invariant-loop-k decreases-loop-k) (i : ℕ) {e : ℕ} → e ≡ get_or s.args.entries.now i 0 → s.args.from ≤ i → i < s.args.from + s.args.count →
     (e < length s.args.x_lo.now) × ((e < length s.args.x_hi.now) × ((e < length s.args.y_lo.now) × (e < length s.args.y_hi.now)))
 known s i q a b =
     let p = s.requires in
     rw q (p.0.0.known i a b, (p.0.1.known i a b, (p.1.0.known i a b, p.1.1.known i a b)))
 
-box-at-requires : tie.Need-box-at-requires invariant-loop decreases-loop
-box-at-requires c κs =
+box_at-all-requires : tie.Need-box_at-all-requires invariant-loop-k decreases-loop-k
+box_at-all-requires c κs =
     let s = c.before.before.before in
     known s s.args.from c.wide16.ensures (omega arith) (omega (arith, s.requires.0.0.some))
 
-loop-holds : tie.Need-loop-init invariant-loop decreases-loop
-loop-holds c =
+loop-k-init : tie.Need-loop-k-init invariant-loop-k decreases-loop-k
+loop-k-init c =
     let s = c.before.before.before.before in
     let v = s.args in
-    join_first join_boxes _ v.from v.count (c.box_at_lem.ensures ∙ ap (box_at (sides v.x_lo.now v.x_hi.now v.y_lo.now v.y_hi.now)) c.before.wide16.ensures) s.requires.0.0.some
+    join_first join_boxes _ v.from v.count (c.box_at.ensures ∙ ap (box_at (sides v.x_lo.now v.x_hi.now v.y_lo.now v.y_hi.now)) c.wide16.ensures) s.requires.0.0.some
 
-add-loop : tie.Need-overflow-add-loop invariant-loop decreases-loop
-add-loop c = omega (arith, c.loop.invariant.within)
+overflow_add-k : tie.Need-overflow_add-k invariant-loop-k decreases-loop-k
+overflow_add-k c = omega (arith, c.loop-k.invariant.within)
 
-add-k : tie.Need-overflow-add-k invariant-loop decreases-loop
-add-k c = omega arith
+overflow_add-k : tie.Need-overflow_add-k invariant-loop-k decreases-loop-k
+overflow_add-k c = omega arith
 
-add-wide16 : tie.Need-overflow-add-wide16 invariant-loop decreases-loop
-add-wide16 c = omega (arith, c.before.before.before.before.before.before.requires.0.0.inside)
+overflow_add-from : tie.Need-overflow_add-from invariant-loop-k decreases-loop-k
+overflow_add-from c = omega (arith, c.requires.0.0.inside)
 
-mul-wide16-2 : tie.Need-overflow-mul-wide16-2 invariant-loop decreases-loop
-mul-wide16-2 c = omega (arith, c.before.before.before.before.before.before.requires.0.0.inside)
+offset_bounds-entries-from-in-loop-k : tie.Need-offset_bounds-entries-from-in-loop-k invariant-loop-k decreases-loop-k
+offset_bounds-entries-from-in-loop-k c = omega (arith, c.requires.0.0.inside)
 
-shared-slice-read-wide16-2 : tie.Need-shared-slice-read-wide16-2 invariant-loop decreases-loop
-shared-slice-read-wide16-2 c = omega (arith, c.before.before.before.before.before.before.before.requires.0.0.inside)
+bounds-entries-from-in-loop-k : tie.Need-bounds-entries-from-in-loop-k invariant-loop-k decreases-loop-k
+bounds-entries-from-in-loop-k c = omega (arith, c.requires.0.0.inside)
 
-wide16-requires-2 : tie.Need-wide16-requires-2 invariant-loop decreases-loop
-wide16-requires-2 c κs = tt
+wide16-requires-in-loop-k : tie.Need-wide16-requires-in-loop-k invariant-loop-k decreases-loop-k
+wide16-requires-in-loop-k c κs = tt
 
-box-at-requires-2 : tie.Need-box-at-requires-2 invariant-loop decreases-loop
-box-at-requires-2 c κs =
+box_at-b-requires : tie.Need-box_at-b-requires invariant-loop-k decreases-loop-k
+box_at-b-requires c κs =
     let s = c.before.before.before.before.before.before.before.before in
-    known s (s.args.from + (c.before.before.before.loop.k + 1)) c.wide162.ensures (omega arith) (omega arith)
+    known s (s.args.from + (c.loop-k.k + 1)) c.wide16-in-loop-k.ensures (omega arith) (omega arith)
 
-box-join-requires : tie.Need-box-join-requires invariant-loop decreases-loop
-box-join-requires c κs = tt
+box_join-all-requires : tie.Need-box_join-all-requires invariant-loop-k decreases-loop-k
+box_join-all-requires c κs = tt
 
-loop-less : tie.Need-loop-smaller invariant-loop decreases-loop
-loop-less c = omega arith
+loop-k-smaller : tie.Need-loop-k-smaller invariant-loop-k decreases-loop-k
+loop-k-smaller c = omega arith
 
-loop-again : tie.Need-loop-preserved invariant-loop decreases-loop
-loop-again c =
+loop-k-preserved : tie.Need-loop-k-preserved invariant-loop-k decreases-loop-k
+loop-k-preserved c =
     let b = c.before in
-    let l = b.before.before.before.before.loop in
-    let v = b.before.before.before.before.before.before.before.before.before.args in
-    join_more join_boxes _ v.from v.count l.invariant b.before.before.before.loop-test.true
-    (c.box-join.ensures
-    ∙ ap (join_boxes l.all) (b.box-at2.ensures ∙ ap (box_at (sides v.x_lo.now v.x_hi.now v.y_lo.now v.y_hi.now)) b.before.wide162.ensures))
+    let l = b.loop-k in
+    let v = b.args in
+    join_more join_boxes _ v.from v.count l.invariant b.loop-k-test.true
+    (c.box_join-all.ensures
+    ∙ ap (join_boxes l.all) (b.box_at-b.ensures ∙ ap (box_at (sides v.x_lo.now v.x_hi.now v.y_lo.now v.y_hi.now)) b.wide16-in-loop-k.ensures))
 
-returns : tie.Need-returns invariant-loop decreases-loop
-returns c = let l = c.before.loop in join_all join_boxes _ _ _ l.all l.k l.invariant c.loop-test.false
+returns : tie.Need-returns invariant-loop-k decreases-loop-k
+returns c = let l = c.loop-k in join_all join_boxes _ _ _ l.all l.k l.invariant c.loop-k-test.false
 
 pub joined_boxes_spec : {M : Type 1} → statement M
 joined_boxes_spec =
     tie.close
-    (tie.spec
-    invariant-loop
-    decreases-loop
-    mul-wide16
-    shared-slice-read-wide16
-    wide16-requires
-    box-at-requires
-    loop-holds
-    add-loop
-    add-k
-    add-wide16
-    mul-wide16-2
-    shared-slice-read-wide16-2
-    wide16-requires-2
-    box-at-requires-2
-    box-join-requires
-    loop-less
-    loop-again
-    returns)
+    (tie.spec invariant-loop-k decreases-loop-k offset_bounds-entries-from bounds-entries-from wide16-requires box_at-all-requires loop-k-init overflow_add-k (λ c. search rules) overflow_add-from offset_bounds-entries-from-in-loop-k bounds-entries-from-in-loop-k wide16-requires-in-loop-k box_at-b-requires box_join-all-requires loop-k-smaller loop-k-preserved returns)

@@ -19,7 +19,7 @@ start c = c.before.before.before.before
 
 -- what is known after the key, and after the value
 keyed : (c : tie.Else-not-begins) → (let a = (start c).args in Keyed a.key.now a.t.now)
-keyed c = c.begins.ensures.holds (not-false _ c.if-not-begins.false)
+keyed c = c.begins.ensures.holds c.if-not-begins.false
 
 abbrev first : tie.After-bits_to_feed-v → tie.Else-not-begins
 first c = c.before.before

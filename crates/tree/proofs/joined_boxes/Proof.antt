@@ -48,13 +48,13 @@ loop-k-init : tie.Need-loop-k-init invariant-loop-k decreases-loop-k
 loop-k-init c =
     let s = c.before.before.before.before in
     let v = s.args in
-    join_first join_boxes _ v.from v.count (c.box_at.ensures ∙ ap (box_at (sides v.x_lo.now v.x_hi.now v.y_lo.now v.y_hi.now)) c.wide16.ensures) s.requires.0.0.some
+    join_first join_boxes _ v.from v.count (c.box_at-all.ensures ∙ ap (box_at (sides v.x_lo.now v.x_hi.now v.y_lo.now v.y_hi.now)) c.wide16.ensures) s.requires.0.0.some
 
 overflow_add-k : tie.Need-overflow_add-k invariant-loop-k decreases-loop-k
 overflow_add-k c = omega (arith, c.loop-k.invariant.within)
 
-overflow_add-k : tie.Need-overflow_add-k invariant-loop-k decreases-loop-k
-overflow_add-k c = omega arith
+overflow_add-k-in-loop-k : tie.Need-overflow_add-k-in-loop-k invariant-loop-k decreases-loop-k
+overflow_add-k-in-loop-k c = omega arith
 
 overflow_add-from : tie.Need-overflow_add-from invariant-loop-k decreases-loop-k
 overflow_add-from c = omega (arith, c.requires.0.0.inside)
@@ -94,4 +94,4 @@ returns c = let l = c.loop-k in join_all join_boxes _ _ _ l.all l.k l.invariant 
 pub joined_boxes_spec : {M : Type 1} → statement M
 joined_boxes_spec =
     tie.close
-    (tie.spec invariant-loop-k decreases-loop-k offset_bounds-entries-from bounds-entries-from wide16-requires box_at-all-requires loop-k-init overflow_add-k (λ c. search rules) overflow_add-from offset_bounds-entries-from-in-loop-k bounds-entries-from-in-loop-k wide16-requires-in-loop-k box_at-b-requires box_join-all-requires loop-k-smaller loop-k-preserved returns)
+    (tie.spec invariant-loop-k decreases-loop-k offset_bounds-entries-from bounds-entries-from wide16-requires box_at-all-requires loop-k-init overflow_add-k overflow_add-k-in-loop-k overflow_add-from offset_bounds-entries-from-in-loop-k bounds-entries-from-in-loop-k wide16-requires-in-loop-k box_at-b-requires box_join-all-requires loop-k-smaller loop-k-preserved returns)

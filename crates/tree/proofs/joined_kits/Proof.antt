@@ -44,8 +44,8 @@ loop-k-init c =
 overflow_add-k : tie.Need-overflow_add-k invariant-loop-k decreases-loop-k
 overflow_add-k c = omega (arith, c.loop-k.invariant.within)
 
-overflow_add-k : tie.Need-overflow_add-k invariant-loop-k decreases-loop-k
-overflow_add-k c = omega arith
+overflow_add-k-in-loop-k : tie.Need-overflow_add-k-in-loop-k invariant-loop-k decreases-loop-k
+overflow_add-k-in-loop-k c = omega arith
 
 overflow_add-from : tie.Need-overflow_add-from invariant-loop-k decreases-loop-k
 overflow_add-from c = omega (arith, c.requires.inside)
@@ -86,4 +86,4 @@ returns c = let l = c.loop-k in join_all bit_or _ _ _ l.all l.k l.invariant c.lo
 pub joined_kits_spec : {M : Type 1} → statement M
 joined_kits_spec =
     tie.close
-    (tie.spec invariant-loop-k decreases-loop-k offset_bounds-entries-from bounds-entries-from wide16-first-requires offset_bounds-kits-first bounds-kits-first loop-k-init overflow_add-k (λ c. search rules) overflow_add-from offset_bounds-entries-from-in-loop-k bounds-entries-from-in-loop-k wide16-e-requires offset_bounds-kits-e bounds-kits-e loop-k-smaller loop-k-preserved returns)
+    (tie.spec invariant-loop-k decreases-loop-k offset_bounds-entries-from bounds-entries-from wide16-first-requires offset_bounds-kits-first bounds-kits-first loop-k-init overflow_add-k overflow_add-k-in-loop-k overflow_add-from offset_bounds-entries-from-in-loop-k bounds-entries-from-in-loop-k wide16-e-requires offset_bounds-kits-e bounds-kits-e loop-k-smaller loop-k-preserved returns)

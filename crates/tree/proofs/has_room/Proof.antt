@@ -14,7 +14,7 @@ returns-then-l-nodes c =
     (⊎_elim (λ w. omega (arith, flags))
     (⊎_elim (λ w. omega (arith, flags))
     (⊎_elim (λ w. omega (arith, flags)) (⊎_elim (λ w. omega (arith, flags)) (⊎_elim (λ w. omega (arith, flags)) (λ w. omega (arith, flags)))))))))
-    c.if-l-nodes.branch)
+    c.then-l-nodes.branch-raw)
 
 returns : tie.Need-returns
 returns c = decides_yes (omega (arith, flags))

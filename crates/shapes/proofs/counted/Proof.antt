@@ -38,7 +38,7 @@ sub-if6 : tie.Need-overflow-sub-if6
 sub-if6 c = search rules
 
 returns-3 : tie.Need-returns-3
-returns-3 c = breaks (λ h. ⊎_elim (λ w. c.before.if2.false (h.empty.1 w.true)) (λ w. omega (arith, flags)) c.if5.branch)
+returns-3 c = breaks (λ h. ⊎_elim (λ w. c.before.if2.false (h.empty.1 w.taken)) (λ w. omega (arith, flags)) c.if5.branch)
 
 has-room-requires : tie.Need-has-room-requires
 has-room-requires c κs = search rules
@@ -50,7 +50,7 @@ returns-5 : tie.Need-returns-5
 returns-5 c =
     let went = c.before.before.if2.branch in
     holds (record {
-      empty = ⊎_elim (λ w. (λ _. w.1.left, λ _. w.0.true)) (λ w. (λ e. absurd (w.0.left e), λ e. absurd (w.1.left e))) went;
+      empty = ⊎_elim (λ w. (λ _. w.1.left, λ _. w.0.taken)) (λ w. (λ e. absurd (w.0.left e), λ e. absurd (w.1.left e))) went;
       few = omega arith;
       all = ⊎_elim (λ w. omega (arith, flags)) (λ w. omega (arith, flags)) went;
       room = c.before.has_room.ensures.holds (not-false _ c.if7.false);

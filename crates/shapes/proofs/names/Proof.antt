@@ -85,7 +85,7 @@ loop-again : tie.Need-loop-preserved invariant-loop decreases-loop
 loop-again c =
     let g = reading c.before.before in
     rw c.moved.ensures
-    (⊎_elim (λ w. place_named g w.0.true w.1.left) (λ w. node_named g w.0.left (omega (arith, flags))) c.before.if1.branch)
+    (⊎_elim (λ w. place_named g w.0.taken w.1.left) (λ w. node_named g w.0.left (omega (arith, flags))) c.before.if1.branch)
 
 returns-3 : tie.Need-returns-3 invariant-loop decreases-loop
 returns-3 c = all_named _ c.before.loop.invariant c.loop-test.false

@@ -46,7 +46,7 @@ returns : tie.Need-returns invariant-loop decreases-loop
 returns c entries =
     let l = turn c.before in
     let g = l.before.loop.inv entries in
-    misshaped g l.loop-test.true
+    misshaped g l.loop-test.taken
     (λ h. ⊎_elim (λ w. omega arith)
     (⊎_elim (λ w. omega (arith, flags)) (⊎_elim (λ w. omega (arith, flags)) (⊎_elim (λ w. omega (arith, flags)) (λ w. omega (arith, flags)))))
     c.if1.branch)
@@ -68,7 +68,7 @@ loop-again c entries =
     let l = turn r in
     let g = l.before.loop.inv entries in
     rw r.wide8.ensures
-    (passed_more g l.loop-test.true (omega (arith, flags)))
+    (passed_more g l.loop-test.taken (omega (arith, flags)))
 
 returns-2 : tie.Need-returns-2 invariant-loop decreases-loop
 returns-2 c entries = misended (c.before.before.loop.invariant entries) c.before.loop-test.false c.if6.true

@@ -21,42 +21,42 @@ module _ {p nodes listed : ℕ} {l : Lengths} where
   holds : Counted p nodes listed l → says 0 0 ≡ verdict (rule21 p nodes listed l ∷ [])
   holds h = holds_all (rule21 p nodes listed l) refl (λ _ _. h)
 
-returns : tie.Need-returns
-returns c = breaks (λ h. omega arith)
+returns-then-nodes-gt2048 : tie.Need-returns-then-nodes-gt2048
+returns-then-nodes-gt2048 c = breaks (λ h. omega arith)
 
-returns-2 : tie.Need-returns-2
-returns-2 c =
+returns-then-places-ne0 : tie.Need-returns-then-places-ne0
+returns-then-places-ne0 c =
     breaks
     (λ h.
-    let e = h.empty.0 c.before.if2.true in
-    ⊎_elim (λ w. omega arith) (λ w. omega (arith, flags)) c.if3.branch)
+    let e = h.empty.0 c.if-nodes-eq0.true in
+    ⊎_elim (λ w. omega arith) (λ w. omega (arith, flags)) c.then-places-ne0.branch-raw)
 
-add-if6 : tie.Need-overflow-add-if6
-add-if6 c = search rules
+overflow_add-places : tie.Need-overflow_add-places
+overflow_add-places c = search rules
 
-sub-if6 : tie.Need-overflow-sub-if6
-sub-if6 c = search rules
+overflow_sub-places : tie.Need-overflow_sub-places
+overflow_sub-places c = search rules
 
-returns-3 : tie.Need-returns-3
-returns-3 c = breaks (λ h. ⊎_elim (λ w. c.before.if2.false (h.empty.1 w.taken)) (λ w. omega (arith, flags)) c.if5.branch)
+returns-then-places-eq0 : tie.Need-returns-then-places-eq0
+returns-then-places-eq0 c = breaks (λ h. ⊎_elim (λ w. c.if-nodes-eq0.false (h.empty.1 w.if-places-eq0.true)) (λ w. omega (arith, flags)) c.then-places-eq0.branch-raw)
 
-has-room-requires : tie.Need-has-room-requires
-has-room-requires c κs = search rules
+has_room-requires : tie.Need-has_room-requires
+has_room-requires c κs = search rules
 
-returns-4 : tie.Need-returns-4
-returns-4 c = breaks (λ h. c.before.has_room.ensures.fails (not-true _ c.if7.true) h.room)
+returns-then-not-has_room : tie.Need-returns-then-not-has_room
+returns-then-not-has_room c = breaks (λ h. c.has_room.ensures.fails c.if-not-has_room.true h.room)
 
-returns-5 : tie.Need-returns-5
-returns-5 c =
-    let went = c.before.before.if2.branch in
+returns : tie.Need-returns
+returns c =
+    let went = c.if-nodes-eq0.branch-raw in
     holds (record {
-      empty = ⊎_elim (λ w. (λ _. w.1.left, λ _. w.0.taken)) (λ w. (λ e. absurd (w.0.left e), λ e. absurd (w.1.left e))) went;
+      empty = ⊎_elim (λ w. (λ _. w.if-places-ne0.false, λ _. w.if-nodes-eq0.true)) (λ w. (λ e. absurd (w.if-nodes-eq0.false e), λ e. absurd (w.if-places-eq0.false e))) went;
       few = omega arith;
       all = ⊎_elim (λ w. omega (arith, flags)) (λ w. omega (arith, flags)) went;
-      room = c.before.has_room.ensures.holds (not-false _ c.if7.false);
+      room = c.has_room.ensures.holds c.if-not-has_room.false;
     })
 
 pub counted_spec : {M : Type 1} → statement M
 counted_spec =
     tie.close
-    (tie.spec returns returns-2 add-if6 sub-if6 returns-3 has-room-requires returns-4 returns-5)
+    (tie.spec returns-then-nodes-gt2048 returns-then-places-ne0 overflow_add-places overflow_sub-places returns-then-places-eq0 has_room-requires returns-then-not-has_room returns)

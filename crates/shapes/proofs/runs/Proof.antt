@@ -11,88 +11,72 @@ use Rattle.shapes.proofs.RunLaws.{Passed, passed_none, passed_more, misshaped, m
 use Rattle.shapes.proofs.runs.Statement.{statement}
 use Rattle.shapes.proofs.runs.Tie as tie
 
-abbrev invariant-loop : tie.invariant-loop
-invariant-loop nodes listed level start count n₀ due₀ n due = (entries : List ℕ) → Passed (shape nodes listed level start count entries) n due
+abbrev invariant-loop-n : tie.invariant-loop-n
+invariant-loop-n nodes listed level start count n₀ due₀ n due = (entries : List ℕ) → Passed (shape nodes listed level start count entries) n due
 
-abbrev decreases-loop : tie.decreases-loop
-decreases-loop nodes listed level start count n₀ due₀ n due = nodes - n
+abbrev decreases-loop-n : tie.decreases-loop-n
+decreases-loop-n nodes listed level start count n₀ due₀ n due = nodes - n
 
 -- the turn that has read a node's columns
-abbrev turn : tie.After-wide8 invariant-loop decreases-loop → tie.In-loop invariant-loop decreases-loop
+abbrev turn : tie.After-wide8-c invariant-loop-n decreases-loop-n → tie.In-loop-n invariant-loop-n decreases-loop-n
 turn c = c.before.before.before.before.before
 
-loop-holds : tie.Need-loop-init invariant-loop decreases-loop
-loop-holds c entries = passed_none _
+loop-n-init : tie.Need-loop-n-init invariant-loop-n decreases-loop-n
+loop-n-init c entries = passed_none _
 
-shared-slice-read-l : tie.Need-shared-slice-read-l invariant-loop decreases-loop
-shared-slice-read-l c = search rules
+bounds-level-n : tie.Need-bounds-level-n invariant-loop-n decreases-loop-n
+bounds-level-n c = search rules
 
-mul-wide16 : tie.Need-overflow-mul-wide16 invariant-loop decreases-loop
-mul-wide16 c = search rules
+offset_bounds-start-n : tie.Need-offset_bounds-start-n invariant-loop-n decreases-loop-n
+offset_bounds-start-n c = search rules
 
-shared-slice-read-wide16 : tie.Need-shared-slice-read-wide16 invariant-loop decreases-loop
-shared-slice-read-wide16 c = search rules
+bounds-start-n : tie.Need-bounds-start-n invariant-loop-n decreases-loop-n
+bounds-start-n c = search rules
 
-wide16-requires : tie.Need-wide16-requires invariant-loop decreases-loop
-wide16-requires c κs = search rules
+wide16-s-requires : tie.Need-wide16-s-requires invariant-loop-n decreases-loop-n
+wide16-s-requires c κs = search rules
 
-shared-slice-read-wide8 : tie.Need-shared-slice-read-wide8 invariant-loop decreases-loop
-shared-slice-read-wide8 c = search rules
+bounds-count-n : tie.Need-bounds-count-n invariant-loop-n decreases-loop-n
+bounds-count-n c = search rules
 
-wide8-requires : tie.Need-wide8-requires invariant-loop decreases-loop
-wide8-requires c κs = search rules
+wide8-c-requires : tie.Need-wide8-c-requires invariant-loop-n decreases-loop-n
+wide8-c-requires c κs = search rules
 
-returns : tie.Need-returns invariant-loop decreases-loop
-returns c entries =
+returns-then-l-lt1 : tie.Need-returns-then-l-lt1 invariant-loop-n decreases-loop-n
+returns-then-l-lt1 c entries =
     let l = turn c.before in
-    let g = l.before.loop.inv entries in
-    misshaped g l.loop-test.taken
+    let g = l.loop-n.invariant entries in
+    misshaped g l.loop-n-test.true
     (λ h. ⊎_elim (λ w. omega arith)
     (⊎_elim (λ w. omega (arith, flags)) (⊎_elim (λ w. omega (arith, flags)) (⊎_elim (λ w. omega (arith, flags)) (λ w. omega (arith, flags)))))
-    c.if1.branch)
+    c.then-l-lt1.branch-raw)
 
-add-due : tie.Need-overflow-add-due invariant-loop decreases-loop
-add-due c =
-    let g = (turn c.before.before.before.before.before).before.loop.inv [] in
+overflow_add-due : tie.Need-overflow_add-due invariant-loop-n decreases-loop-n
+overflow_add-due c =
+    let g = (turn c.before.before.before.before.before).loop-n.invariant [] in
     omega (arith, flags)
 
-add-n : tie.Need-overflow-add-n invariant-loop decreases-loop
-add-n c = search rules
+overflow_add-n : tie.Need-overflow_add-n invariant-loop-n decreases-loop-n
+overflow_add-n c = search rules
 
-loop-less : tie.Need-loop-smaller invariant-loop decreases-loop
-loop-less c = search rules
+loop-n-smaller : tie.Need-loop-n-smaller invariant-loop-n decreases-loop-n
+loop-n-smaller c = search rules
 
-loop-again : tie.Need-loop-preserved invariant-loop decreases-loop
-loop-again c entries =
+loop-n-preserved : tie.Need-loop-n-preserved invariant-loop-n decreases-loop-n
+loop-n-preserved c entries =
     let r = c.before.before.before.before.before in
     let l = turn r in
-    let g = l.before.loop.inv entries in
-    rw r.wide8.ensures
-    (passed_more g l.loop-test.taken (omega (arith, flags)))
+    let g = l.loop-n.invariant entries in
+    rw r.wide8-c.ensures
+    (passed_more g l.loop-n-test.true (omega (arith, flags)))
 
-returns-2 : tie.Need-returns-2 invariant-loop decreases-loop
-returns-2 c entries = misended (c.before.before.loop.invariant entries) c.before.loop-test.false c.if6.true
+returns-then-due-listed : tie.Need-returns-then-due-listed invariant-loop-n decreases-loop-n
+returns-then-due-listed c entries = misended (c.loop-n.invariant entries) c.loop-n-test.false c.if-due-listed.true
 
-returns-3 : tie.Need-returns-3 invariant-loop decreases-loop
-returns-3 c entries = runs_hold (c.before.before.loop.invariant entries) c.before.loop-test.false c.if6.false
+returns : tie.Need-returns invariant-loop-n decreases-loop-n
+returns c entries = runs_hold (c.loop-n.invariant entries) c.loop-n-test.false c.if-due-listed.false
 
 pub runs_spec : {M : Type 1} → statement M
 runs_spec =
     tie.close
-    (tie.spec
-    invariant-loop
-    decreases-loop
-    loop-holds
-    shared-slice-read-l
-    mul-wide16
-    shared-slice-read-wide16
-    wide16-requires
-    shared-slice-read-wide8
-    wide8-requires
-    returns
-    add-due
-    add-n
-    loop-less
-    loop-again
-    returns-2
-    returns-3)
+    (tie.spec invariant-loop-n decreases-loop-n loop-n-init bounds-level-n offset_bounds-start-n bounds-start-n wide16-s-requires bounds-count-n wide8-c-requires returns-then-l-lt1 overflow_add-due overflow_add-n loop-n-smaller loop-n-preserved returns-then-due-listed returns)

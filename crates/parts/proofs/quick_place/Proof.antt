@@ -150,6 +150,9 @@ not_quick-requires-then-not-d c κs = search rules
 returns-then-not-d : tie.Need-returns-then-not-d
 returns-then-not-d c = not_ok _ c.not_quick-then-not-d.ensures
 
+overflow_add-result : tie.Need-overflow_add-result
+overflow_add-result c = omega (arith, (held c.before).0, long (start (second (third (fourth c.before)))))
+
 returns : tie.Need-returns
 returns c =
     let d = c.before.before.before in
@@ -169,4 +172,4 @@ returns c =
 pub quick_place_spec : {M : Type 1} → statement M
 quick_place_spec =
     tie.close
-    (tie.spec slice_bounds-quick_number-count slice_bounds-quick_number-start slice_bounds-quick_number-end quick_number-a-requires not_quick-requires returns-then-not-a not_quick-requires-then-a-i returns-then-a-i overflow_add-east slice_bounds-quick_coordinate-count slice_bounds-quick_coordinate-start slice_bounds-quick_coordinate-end quick_coordinate-b-requires not_quick-requires-then-not-b returns-then-not-b overflow_add-north slice_bounds-quick_coordinate-count-2 slice_bounds-quick_coordinate-start-2 slice_bounds-quick_coordinate-end-3 quick_coordinate-c-requires not_quick-requires-then-not-c returns-then-not-c overflow_add-word slice_bounds-quick_bits-count slice_bounds-quick_bits-start slice_bounds-quick_bits-end quick_bits-d-requires not_quick-requires-then-not-d returns-then-not-d (λ c. search rules) returns)
+    (tie.spec slice_bounds-quick_number-count slice_bounds-quick_number-start slice_bounds-quick_number-end quick_number-a-requires not_quick-requires returns-then-not-a not_quick-requires-then-a-i returns-then-a-i overflow_add-east slice_bounds-quick_coordinate-count slice_bounds-quick_coordinate-start slice_bounds-quick_coordinate-end quick_coordinate-b-requires not_quick-requires-then-not-b returns-then-not-b overflow_add-north slice_bounds-quick_coordinate-count-2 slice_bounds-quick_coordinate-start-2 slice_bounds-quick_coordinate-end-3 quick_coordinate-c-requires not_quick-requires-then-not-c returns-then-not-c overflow_add-word slice_bounds-quick_bits-count slice_bounds-quick_bits-start slice_bounds-quick_bits-end quick_bits-d-requires not_quick-requires-then-not-d returns-then-not-d overflow_add-result returns)

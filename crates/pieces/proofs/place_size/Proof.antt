@@ -11,46 +11,39 @@ use Rattle.rows.proofs.SizeLaws.{signed_most, place_length}
 use Rattle.pieces.proofs.place_size.Statement.{statement}
 use Rattle.pieces.proofs.place_size.Tie as tie
 
-width-of-requires : tie.Need-width-of-requires
-width-of-requires c κs = search rules
+width_of-requires : tie.Need-width_of-requires
+width_of-requires c κs = search rules
 
-add-result : tie.Need-overflow-add-result
-add-result c = omega (arith, c.width_of_lem.ensures, width_most c.before.args.i)
+overflow_add-result : tie.Need-overflow_add-result
+overflow_add-result c = omega (arith, c.width_of.ensures, width_most c.args.i)
 
-signed-width-of-requires : tie.Need-signed-width-of-requires
-signed-width-of-requires c κs = search rules
+signed_width_of-requires : tie.Need-signed_width_of-requires
+signed_width_of-requires c κs = search rules
 
 -- the bytes of x and of y
-x_is : (c : tie.After-signed-width-of) → c.signed-width-of.result ≡ length (signed c.before.before.args.x)
-x_is c = c.signed-width-of.ensures ∙ ap (λ z. length (signed z)) (to_z-of_z c.before.before.ranges.x)
+x_is : (c : tie.After-signed_width_of) → c.signed_width_of.result ≡ length (signed c.args.x)
+x_is c = c.signed_width_of.ensures ∙ ap (λ z. length (signed z)) (to_z-of_z c.ranges.x)
 
-y_is : (c : tie.After-signed-width-of2) → c.signed-width-of2.result ≡ length (signed c.before.before.before.args.y)
-y_is c = c.signed-width-of2.ensures ∙ ap (λ z. length (signed z)) (to_z-of_z c.before.before.before.ranges.y)
+y_is : (c : tie.After-signed_width_of-2) → c.signed_width_of-2.result ≡ length (signed c.args.y)
+y_is c = c.signed_width_of-2.ensures ∙ ap (λ z. length (signed z)) (to_z-of_z c.ranges.y)
 
-add-result-2 : tie.Need-overflow-add-result-2
-add-result-2 c = let a = c.before.before.args in omega (arith, c.before.width_of_lem.ensures, width_most a.i, x_is c, signed_most a.x)
+overflow_add-result-2 : tie.Need-overflow_add-result-2
+overflow_add-result-2 c = let a = c.args in omega (arith, c.width_of.ensures, width_most a.i, x_is c, signed_most a.x)
 
-signed-width-of-requires-2 : tie.Need-signed-width-of-requires-2
-signed-width-of-requires-2 c κs = search rules
+signed_width_of-requires-2 : tie.Need-signed_width_of-requires-2
+signed_width_of-requires-2 c κs = search rules
 
-add-result-3 : tie.Need-overflow-add-result-3
-add-result-3 c =
-    let a = c.before.before.before.args in
-    omega (arith, c.before.before.width_of_lem.ensures, width_most a.i, x_is c.before, signed_most a.x, y_is c, signed_most a.y)
+overflow_add-result-3 : tie.Need-overflow_add-result-3
+overflow_add-result-3 c =
+    let a = c.args in
+    omega (arith, c.width_of.ensures, width_most a.i, x_is c.before, signed_most a.x, y_is c, signed_most a.y)
 
 returns : tie.Need-returns
 returns c = λ kit.
-    let a = c.before.before.before.args in
-    omega (arith, c.before.before.width_of_lem.ensures, x_is c.before, y_is c, place_length a.i a.x a.y kit)
+    let a = c.args in
+    omega (arith, c.width_of.ensures, x_is c.before, y_is c, place_length a.i a.x a.y kit)
 
 pub place_size_spec : {M : Type 1} → statement M
 place_size_spec =
     tie.close
-    (tie.spec
-    width-of-requires
-    add-result
-    signed-width-of-requires
-    add-result-2
-    signed-width-of-requires-2
-    add-result-3
-    returns)
+    (tie.spec width_of-requires overflow_add-result signed_width_of-requires overflow_add-result-2 signed_width_of-requires-2 overflow_add-result-3 returns)

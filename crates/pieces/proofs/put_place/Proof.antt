@@ -24,78 +24,68 @@ yOn s = line_of (ascii "y=") (signed s.args.y) ++ kit_of s
 abbrev xOn : tie.Start → List ℕ
 xOn s = line_of (ascii "x=") (signed s.args.x) ++ yOn s
 
-put-number-line-requires : tie.Need-put-number-line-requires
+put_number_line-a-requires : tie.Need-put_number_line-a-requires
 unfolding place_text place_part
-put-number-line-requires c κs =
+put_number_line-a-requires c κs =
     let s = c.before.before.before in
-    room_first (line_of (ascii "place=") (decimal s.args.i)) (xOn s) _ _ s.requires
+    room_first (line_of (ascii "place=") (decimal s.args.i)) (xOn s.before) _ _ s.requires
 
 -- what follows the number has room
-abbrev begin : tie.After-put-number-line → tie.Start
-begin c = c.before.before.before.before
+abbrev begin : tie.After-put_number_line-a → tie.Start
+begin c = c.before.before.before.before.before
 
-behind_number : (c : tie.After-put-number-line) → c.put-number-line.result + length (xOn (begin c)) ≤ length c.put-number-line.new.0
+behind_number : (c : tie.After-put_number_line-a) → c.put_number_line-a.result + length (xOn (begin c)) ≤ length c.put_number_line-a.new.out
 unfolding place_text place_part
-behind_number c = room_after (xOn (begin c)) (begin c).requires c.put-number-line.ensures
+behind_number c = room_after (xOn (begin c)) (begin c).requires c.put_number_line-a.ensures
 
-put-signed-line-requires : tie.Need-put-signed-line-requires
-put-signed-line-requires c κs =
+put_signed_line-b-requires : tie.Need-put_signed_line-b-requires
+put_signed_line-b-requires c κs =
     let n = c.before.before.before.before in
-    let s = begin n in
-    rw (to_z-of_z s.fits.x) (room_first (line_of (ascii "x=") (signed s.args.x)) (yOn s) _ _ (behind_number n))
+    let s = begin n.before in
+    rw (to_z-of_z s.ranges.x) (room_first (line_of (ascii "x=") (signed s.args.x)) (yOn s) _ _ (behind_number n.before))
 
 -- x is put, and what follows it has room
-abbrev number : tie.After-put-signed-line → tie.After-put-number-line
-number c = c.before.before.before.before.before
+abbrev number : tie.After-put_signed_line-b → tie.After-put_number_line-a
+number c = c.before.before.before.before.before.before
 
-x_put : (c : tie.After-put-signed-line) → let n = number c in
-    Puts n.put-number-line.last.0 n.put-number-line.result (line_of (ascii "x=") (signed (begin n).args.x)) c.put-signed-line.result c.put-signed-line.new.0
-x_put c = puts_text (ap (λ z. line_of (ascii "x=") (signed z)) (to_z-of_z (begin (number c)).ranges.x)) c.put-signed-line.ensures
+x_put : (c : tie.After-put_signed_line-b) → let n = number c in
+    Puts n.put_number_line-a.new.out n.put_number_line-a.result (line_of (ascii "x=") (signed (begin n).args.x)) c.put_signed_line-b.result c.put_signed_line-b.new.out
+x_put c = puts_text (ap (λ z. line_of (ascii "x=") (signed z)) (to_z-of_z (begin (number c)).ranges.x)) c.put_signed_line-b.ensures
 
-behind_x : (c : tie.After-put-signed-line) → c.put-signed-line.result + length (yOn (begin (number c))) ≤ length c.put-signed-line.new.0
+behind_x : (c : tie.After-put_signed_line-b) → c.put_signed_line-b.result + length (yOn (begin (number c))) ≤ length c.put_signed_line-b.new.out
 behind_x c = room_after (yOn (begin (number c))) (behind_number (number c)) (x_put c)
 
-put-signed-line-requires-2 : tie.Need-put-signed-line-requires-2
-put-signed-line-requires-2 c κs =
+put_signed_line-c-requires : tie.Need-put_signed_line-c-requires
+put_signed_line-c-requires c κs =
     let x = c.before.before.before.before in
-    let s = begin (number x) in
-    rw (to_z-of_z s.fits.y) (room_first (line_of (ascii "y=") (signed s.args.y)) (kit_of s) _ _ (behind_x x))
+    let s = begin (number x.before) in
+    rw (to_z-of_z s.ranges.y) (room_first (line_of (ascii "y=") (signed s.args.y)) (kit_of s) _ _ (behind_x x.before))
 
 -- y is put, and what follows it has room
-abbrev first : tie.After-put-signed-line2 → tie.After-put-signed-line
-first c = c.before.before.before.before.before
+abbrev first : tie.After-put_signed_line-c → tie.After-put_signed_line-b
+first c = c.before.before.before.before.before.before
 
-y_put : (c : tie.After-put-signed-line2) → let x = first c in
-    Puts x.put-signed-line.last.0 x.put-signed-line.result (line_of (ascii "y=") (signed (begin (number x)).args.y)) c.put-signed-line2.result c.put-signed-line2.new.0
-y_put c = puts_text (ap (λ z. line_of (ascii "y=") (signed z)) (to_z-of_z (begin (number (first c))).ranges.y)) c.put-signed-line2.ensures
+y_put : (c : tie.After-put_signed_line-c) → let x = first c in
+    Puts x.put_signed_line-b.new.out x.put_signed_line-b.result (line_of (ascii "y=") (signed (begin (number x)).args.y)) c.put_signed_line-c.result c.put_signed_line-c.new.out
+y_put c = puts_text (ap (λ z. line_of (ascii "y=") (signed z)) (to_z-of_z (begin (number (first c))).ranges.y)) c.put_signed_line-c.ensures
 
-behind_y : (c : tie.After-put-signed-line2) → c.put-signed-line2.result + length (kit_of (begin (number (first c)))) ≤ length c.put-signed-line2.new.0
+behind_y : (c : tie.After-put_signed_line-c) → c.put_signed_line-c.result + length (kit_of (begin (number (first c)))) ≤ length c.put_signed_line-c.new.out
 behind_y c = room_after (kit_of (begin (number (first c)))) (behind_x (first c)) (y_put c)
 
-put-bits-line-requires : tie.Need-put-bits-line-requires
-put-bits-line-requires c κs = behind_y c.before.before.before.before
+put_bits_line-requires : tie.Need-put_bits_line-requires
+put_bits_line-requires c κs = behind_y c.before.before.before.before.before
 
 returns : tie.Need-returns
 unfolding place_text place_part
 returns c =
     let y = c.before.before.before.before.before.before.before in
-    let x = first y in
+    let x = first y.before in
     let n = number x in
     let s = begin n in
-    puts_then (xOn s) s.pre n.put-number-line.ensures
-    (puts_then (yOn s) (behind_number n) (x_put x) (puts_then (kit_of s) (behind_x x) (y_put y) c.before.before.put-bits-line.ensures))
+    puts_then (xOn s) s.requires n.put_number_line-a.ensures
+    (puts_then (yOn s) (behind_number n) (x_put x) (puts_then (kit_of s) (behind_x x) (y_put y.before) c.put_bits_line.ensures))
 
 pub put_place_spec : {M : Type 1} → statement M
 put_place_spec =
     tie.close
-    (tie.spec
-    (λ c. search rules)
-    put-number-line-requires
-    (λ c. search rules)
-    put-signed-line-requires
-    (λ c. search rules)
-    put-signed-line-requires-2
-    (λ c. search rules)
-    put-bits-line-requires
-    (λ c. search rules)
-    returns)
+    (tie.spec put_number_line-a-requires put_signed_line-b-requires put_signed_line-c-requires put_bits_line-requires (λ c. search rules) returns)

@@ -21,94 +21,79 @@ record Placed (t : Table) (o : List ℕ) (at : ℕ) (o₁ : List ℕ) (end i : �
   within : i ≤ places t
   puts : Puts o at (places_text t i) end o₁
 
-abbrev invariant-loop : tie.invariant-loop
-invariant-loop out₀ at x y kit end₀ i₀ out end i = Placed (table x y kit) out₀ at out end i
+abbrev invariant-loop-i : tie.invariant-loop-i
+invariant-loop-i out₀ at x y kit end₀ i₀ out end i = Placed (table x y kit) out₀ at out end i
 
-abbrev decreases-loop : tie.decreases-loop
-decreases-loop out₀ at x y kit end₀ i₀ out end i = length x - i
+abbrev decreases-loop-i : tie.decreases-loop-i
+decreases-loop-i out₀ at x y kit end₀ i₀ out end i = length x - i
 
-abbrev table_at : tie.Start invariant-loop decreases-loop → Table
+abbrev table_at : tie.Start invariant-loop-i decreases-loop-i → Table
 table_at s = table s.args.x.now s.args.y.now s.args.kit.now
 
-loop-holds : tie.Need-loop-init invariant-loop decreases-loop
-loop-holds c = let s = c.before.before in record { within = omega arith; puts = none_put (table_at s) s.requires.1 }
+loop-i-init : tie.Need-loop-i-init invariant-loop-i decreases-loop-i
+loop-i-init c = let s = c.before.before in record { within = omega arith; puts = none_put (table_at s) s.requires.1 }
 
-mul-put-place : tie.Need-overflow-mul-put-place invariant-loop decreases-loop
-mul-put-place c = search rules
+offset_bounds-x-i : tie.Need-offset_bounds-x-i invariant-loop-i decreases-loop-i
+offset_bounds-x-i c = search rules
 
-shared-slice-copy-out-put-place : tie.Need-shared-slice-copy-out-put-place invariant-loop decreases-loop
-shared-slice-copy-out-put-place c = search rules
+bounds-x-i : tie.Need-bounds-x-i invariant-loop-i decreases-loop-i
+bounds-x-i c = search rules
 
-mul-put-place-2 : tie.Need-overflow-mul-put-place-2 invariant-loop decreases-loop
-mul-put-place-2 c = search rules
+offset_bounds-y-i : tie.Need-offset_bounds-y-i invariant-loop-i decreases-loop-i
+offset_bounds-y-i c = search rules
 
-shared-slice-copy-out-put-place-2 : tie.Need-shared-slice-copy-out-put-place-2 invariant-loop decreases-loop
-shared-slice-copy-out-put-place-2 c = search rules
+bounds-y-i : tie.Need-bounds-y-i invariant-loop-i decreases-loop-i
+bounds-y-i c = search rules
 
-mul-put-place-3 : tie.Need-overflow-mul-put-place-3 invariant-loop decreases-loop
-mul-put-place-3 c = search rules
+offset_bounds-kit-i : tie.Need-offset_bounds-kit-i invariant-loop-i decreases-loop-i
+offset_bounds-kit-i c = search rules
 
-shared-slice-read-put-place : tie.Need-shared-slice-read-put-place invariant-loop decreases-loop
-shared-slice-read-put-place c = search rules
+bounds-kit-i : tie.Need-bounds-kit-i invariant-loop-i decreases-loop-i
+bounds-kit-i c = search rules
 
-put-place-requires : tie.Need-put-place-requires invariant-loop decreases-loop
-put-place-requires c κs =
+put_place-end-requires : tie.Need-put_place-end-requires invariant-loop-i decreases-loop-i
+put_place-end-requires c κs =
     let r = c.before.before.before.before in
-    let l = r.before.loop in
+    let l = r.loop-i in
     let s = r.before.before.before.before in
     let x = get_or s.args.x.now l.i (pos 0) in
     let y = get_or s.args.y.now l.i (pos 0) in
-    rw (to_z-of_z (fit x c.before.before.put-place-arg2.given), to_z-of_z (fit y c.before.put-place-arg3.given))
-    (place_room (table_at s) s.requires.1 r.loop-test.true l.invariant.puts)
+    rw (to_z-of_z (fit x c.put_place-arg-in-loop-i-1.given), to_z-of_z (fit y c.put_place-arg-in-loop-i-2-1.given))
+    (place_room (table_at s) s.requires.1 r.loop-i-test.true l.invariant.puts)
 
-add-i : tie.Need-overflow-add-i invariant-loop decreases-loop
-add-i c = search rules
+overflow_add-i : tie.Need-overflow_add-i invariant-loop-i decreases-loop-i
+overflow_add-i c = search rules
 
-loop-less : tie.Need-loop-smaller invariant-loop decreases-loop
-loop-less c = search rules
+loop-i-smaller : tie.Need-loop-i-smaller invariant-loop-i decreases-loop-i
+loop-i-smaller c = search rules
 
-loop-again : tie.Need-loop-preserved invariant-loop decreases-loop
-loop-again c =
+loop-i-preserved : tie.Need-loop-i-preserved invariant-loop-i decreases-loop-i
+loop-i-preserved c =
     let k = c.before.before in
     let r = k.before.before.before.before.before in
-    let l = r.before.loop in
+    let l = r.loop-i in
     let s = r.before.before.before.before in
     let x = get_or s.args.x.now l.i (pos 0) in
     let y = get_or s.args.y.now l.i (pos 0) in
-    let put = rw (to_z-of_z (fit x k.before.before.before.put-place-arg2.given), to_z-of_z (fit y k.before.before.put-place-arg3.given)) at k.put-place.ensures in
-    record { within = search rules; puts = place_put (table_at s) s.requires.1 r.loop-test.true l.invariant.puts put }
+    let put = rw (to_z-of_z (fit x k.put_place-arg-in-loop-i-1.given), to_z-of_z (fit y k.put_place-arg-in-loop-i-2-1.given)) at k.put_place-end.ensures in
+    record { within = search rules; puts = place_put (table_at s) s.requires.1 r.loop-i-test.true l.invariant.puts put }
 
 -- all places are put
-done : (c : tie.After-loop invariant-loop decreases-loop) → let s = c.before.before.before.before in let l = c.before.loop in
+done : (c : tie.After-loop-i invariant-loop-i decreases-loop-i) → let s = c.before.before.before.before in let l = c.loop-i in
     Puts s.args.out.now s.args.at (places_text (table_at s) (length s.args.x.now)) l.end l.out
 done c =
     let s = c.before.before.before.before in
-    let l = c.before.loop in
+    let l = c.loop-i in
     let e : l.i ≡ length s.args.x.now = omega (arith, l.invariant.within) in
     puts_text (ap (places_text (table_at s)) e) l.invariant.puts
 
-same_length : tie.Need-same-length invariant-loop decreases-loop
-same_length c = let e = put_length c.before.before.before.before.requires.1 (done c) in search rules
+shape_of-out : tie.Need-shape_of-out invariant-loop-i decreases-loop-i
+shape_of-out c = let e = put_length c.requires.1 (done c) in search rules
 
-returns : tie.Need-returns invariant-loop decreases-loop
+returns : tie.Need-returns invariant-loop-i decreases-loop-i
 returns c = done c
 
 pub put_places_spec : {M : Type 1} → statement M
 put_places_spec =
     tie.close
-    (tie.spec
-    invariant-loop
-    decreases-loop
-    loop-holds
-    mul-put-place
-    shared-slice-copy-out-put-place
-    mul-put-place-2
-    shared-slice-copy-out-put-place-2
-    mul-put-place-3
-    shared-slice-read-put-place
-    put-place-requires
-    add-i
-    loop-less
-    loop-again
-    same_length
-    returns)
+    (tie.spec invariant-loop-i decreases-loop-i loop-i-init offset_bounds-x-i bounds-x-i offset_bounds-y-i bounds-y-i offset_bounds-kit-i bounds-kit-i put_place-end-requires overflow_add-i loop-i-smaller loop-i-preserved shape_of-out returns)

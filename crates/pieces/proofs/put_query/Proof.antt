@@ -26,49 +26,40 @@ both : (s : tie.Start) → s.args.at + length (wantOf s ++ budgetOf s) ≤ lengt
 unfolding query_text query_part
 both s = room_first (wantOf s ++ budgetOf s) last _ _ s.requires
 
-put-bits-line-requires : tie.Need-put-bits-line-requires
-put-bits-line-requires c κs =
+put_bits_line-a-requires : tie.Need-put_bits_line-a-requires
+put_bits_line-a-requires c κs =
     let s = c.before.before.before in
-    room_first (wantOf s) (budgetOf s) _ _ (both s)
+    room_first (wantOf s.before) (budgetOf s.before) _ _ (both s.before)
 
-abbrev begin : tie.After-put-bits-line → tie.Start
-begin c = c.before.before.before.before
+abbrev begin : tie.After-put_bits_line-a → tie.Start
+begin c = c.before.before.before.before.before
 
-put-number-line-requires : tie.Need-put-number-line-requires
-put-number-line-requires c κs =
+put_number_line-b-requires : tie.Need-put_number_line-b-requires
+put_number_line-b-requires c κs =
     let w = c.before.before.before.before in
-    room_after (budgetOf (begin w)) (both (begin w)) w.put-bits-line.ensures
+    room_after (budgetOf (begin w.before)) (both (begin w.before)) w.put_bits_line-a.ensures
 
 -- they are put
-abbrev first : tie.After-put-number-line → tie.After-put-bits-line
-first c = c.before.before.before.before.before
+abbrev first : tie.After-put_number_line-b → tie.After-put_bits_line-a
+first c = c.before.before.before.before.before.before
 
-both_put : (c : tie.After-put-number-line) → let s = begin (first c) in
-    Puts s.args.out.now s.args.at (wantOf s ++ budgetOf s) c.put-number-line.result c.put-number-line.new.0
-both_put c = let w = first c in puts_then (budgetOf (begin w)) (both (begin w)) w.put-bits-line.ensures c.put-number-line.ensures
+both_put : (c : tie.After-put_number_line-b) → let s = begin (first c) in
+    Puts s.args.out.now s.args.at (wantOf s ++ budgetOf s) c.put_number_line-b.result c.put_number_line-b.new.out
+both_put c = let w = first c in puts_then (budgetOf (begin w)) (both (begin w)) w.put_bits_line-a.ensures c.put_number_line-b.ensures
 
-put-word-line-requires : tie.Need-put-word-line-requires
+put_word_line-requires : tie.Need-put_word_line-requires
 unfolding query_text query_part
-put-word-line-requires c κs =
+put_word_line-requires c κs =
     let b = c.before.before.before.before.before in
-    room_after last (begin (first b)).requires (both_put b)
+    room_after last (begin (first b.before.before)).requires (both_put b.before.before)
 
 returns : tie.Need-returns
 unfolding query_text query_part
 returns c =
     let b = c.before.before.before.before.before.before.before.before in
-    puts_then last (begin (first b)).requires (both_put b) c.before.before.put-word-line.ensures
+    puts_then last (begin (first b.before.before)).requires (both_put b.before.before) c.put_word_line.ensures
 
 pub put_query_spec : {M : Type 1} → statement M
 put_query_spec =
     tie.close
-    (tie.spec
-    (λ c. search rules)
-    put-bits-line-requires
-    (λ c. search rules)
-    put-number-line-requires
-    (λ c. search rules)
-    (λ c. search rules)
-    put-word-line-requires
-    (λ c. search rules)
-    returns)
+    (tie.spec put_bits_line-a-requires put_number_line-b-requires put_word_line-requires (λ c. search rules) returns)

@@ -33,29 +33,29 @@ rest s = middle s ++ query s
 all : (s : tie.Start) → 0 + length (head s ++ rest s) ≤ length s.args.out.now
 all s = omega (arith, s.requires.1, ap length (in_pieces (table_at s) s.args.want s.args.budget s.requires.0))
 
-put-head-requires : tie.Need-put-head-requires
-put-head-requires c κs = let s = c.before.before.before in room_first (head s) (rest s) _ _ (all s)
+put_head-a-requires : tie.Need-put_head-a-requires
+put_head-a-requires c κs = let s = c.before.before.before in room_first (head s) (rest s) _ _ (all s)
 
-abbrev begin : tie.After-put-head → tie.Start
+abbrev begin : tie.After-put_head-a → tie.Start
 begin c = c.before.before.before.before
 
-behind_head : (c : tie.After-put-head) → c.put-head.result + length (rest (begin c)) ≤ length c.put-head.new.0
-behind_head c = let s = begin c in room_after (rest s) (all s) c.put-head.ensures
+behind_head : (c : tie.After-put_head-a) → c.put_head-a.result + length (rest (begin c)) ≤ length c.put_head-a.new.out
+behind_head c = let s = begin c in room_after (rest s) (all s) c.put_head-a.ensures
 
-put-places-requires : tie.Need-put-places-requires
-put-places-requires c κs =
+put_places-b-requires : tie.Need-put_places-b-requires
+put_places-b-requires c κs =
     let h = c.before.before.before in
     let s = begin h in
-    (s.pre.0, room_first (middle s) (query s) _ _ (behind_head h))
+    (s.requires.0, room_first (middle s) (query s) _ _ (behind_head h))
 
-abbrev first : tie.After-put-places → tie.After-put-head
+abbrev first : tie.After-put_places-b → tie.After-put_head-a
 first c = c.before.before.before.before
 
-put-query-requires : tie.Need-put-query-requires
-put-query-requires c κs =
+put_query-requires : tie.Need-put_query-requires
+put_query-requires c κs =
     let p = c.before.before.before in
     let h = first p in
-    room_after {t = middle (begin h)} (query (begin h)) (behind_head h) p.put-places.ensures
+    room_after {t = middle (begin h)} (query (begin h)) (behind_head h) p.put_places-b.ensures
 
 returns : tie.Need-returns
 returns c =
@@ -63,8 +63,8 @@ returns c =
     let p = q.before.before.before.before in
     let h = first p in
     let s = begin h in
-    puts_text (sym (in_pieces (table_at s) s.args.want s.args.budget s.pre.0))
-    (puts_then (rest s) (all s) h.put-head.ensures (puts_then {t = middle s} (query s) (behind_head h) p.put-places.ensures q.put-query.ensures))
+    puts_text (sym (in_pieces (table_at s) s.args.want s.args.budget s.requires.0))
+    (puts_then (rest s) (all s) h.put_head-a.ensures (puts_then {t = middle s} (query s) (behind_head h) p.put_places-b.ensures q.put_query.ensures))
 
 pub put_sheet_spec : {M : Type 1} → statement M
-put_sheet_spec = tie.close (tie.spec put-head-requires put-places-requires put-query-requires (λ c. search rules) returns)
+put_sheet_spec = tie.close (tie.spec put_head-a-requires put_places-b-requires put_query-requires (λ c. search rules) returns)

@@ -18,77 +18,65 @@ few : (c : tie.Start) → c.args.places ≤ 4096
 few c = head_few _ _ _ _ c.requires.1.0
 
 -- what is known after each part
-abbrev first : tie.Else1 → tie.Start
+abbrev first : tie.Else-p-ne0 → tie.Start
 first c = c.before.before.before
 
-abbrev second : tie.Else2 → tie.Else1
+abbrev second : tie.Else-q-ne0 → tie.Else-p-ne0
 second c = c.before.before.before
 
-found : (c : tie.Else1) → (let b = first c in let a = b.args in (passed ((several place_part a.places 0).read 3 b.pre.0) ≡ got tt (drop a.p.next a.src.now)) × (a.p.next ≤ length a.src.now))
-found c = told_got _ _ _ _ _ _ _ _ (first c).requires.1.1 c.if1.false
+found : (c : tie.Else-p-ne0) → (let b = first c in let a = b.args in (passed ((several place_part a.places 0).read 3 b.requires.0) ≡ got tt (drop a.p.next a.src.now)) × (a.p.next ≤ length a.src.now))
+found c = told_got _ _ _ _ _ _ _ _ (first c).requires.1.1 c.if-p-ne0.false
 
-query : (c : tie.Else2) → (let a = (first (second c)).args in let r = c.before.before.query-at.result in (query_part.read (3 + 4 * a.places) (drop (first (second c)).args.p.next a.src.now) ≡ got (r.want, r.budget) (drop r.next a.src.now)) × (r.next ≤ length a.src.now))
-query c = told_got _ _ _ _ _ _ _ _ c.before.before.query-at.ensures c.if2.false
+query : (c : tie.Else-q-ne0) → (let a = (first (second c)).args in let r = c.query_at-q.result in (query_part.read (3 + 4 * a.places) (drop (first (second c)).args.p.next a.src.now) ≡ got (r.want, r.budget) (drop r.next a.src.now)) × (r.next ≤ length a.src.now))
+query c = told_got _ _ _ _ _ _ _ _ c.query_at-q.ensures c.if-q-ne0.false
 
 refused-requires : tie.Need-refused-requires
 refused-requires c κs = search rules
 
-returns : tie.Need-returns
-returns c =
+returns-then-p-ne0 : tie.Need-returns-then-p-ne0
+returns-then-p-ne0 c =
     let s = c.before.before.before.before in
-    c.refused.ensures ∙ sym (ap (λ (o : Outcome Held). sheet_of o) (scan_2 _ _ _ s.requires.1.0 _ _ (told_refused _ _ _ _ _ _ _ _ s.requires.1.1 c.before.if1.true).0))
+    c.refused.ensures ∙ sym (ap (λ (o : Outcome Held). sheet_of o) (scan_2 _ _ _ s.requires.1.0 _ _ (told_refused _ _ _ _ _ _ _ _ s.requires.1.1 c.if-p-ne0.true).0))
 
-mul-query-at : tie.Need-overflow-mul-query-at
-mul-query-at c = omega (arith, few (first c))
+overflow_mul-places : tie.Need-overflow_mul-places
+overflow_mul-places c = omega (arith, few (first c))
 
-add-query-at : tie.Need-overflow-add-query-at
-add-query-at c = omega (arith, few (first c))
+overflow_add-places : tie.Need-overflow_add-places
+overflow_add-places c = omega (arith, few (first c))
 
-query-at-requires : tie.Need-query-at-requires
-query-at-requires c κs = ((found c).1, omega (arith, few (first c)))
+query_at-q-requires : tie.Need-query_at-q-requires
+query_at-q-requires c κs = ((found c).1, omega (arith, few (first c)))
 
-refused-requires-2 : tie.Need-refused-requires-2
-refused-requires-2 c κs = search rules
+refused-requires-then-q-ne0 : tie.Need-refused-requires-then-q-ne0
+refused-requires-then-q-ne0 c κs = search rules
 
-returns-2 : tie.Need-returns-2
-returns-2 c =
+returns-then-q-ne0 : tie.Need-returns-then-q-ne0
+returns-then-q-ne0 c =
     let b = c.before.before.before.before in
-    c.refused2.ensures ∙ sym (ap (λ (o : Outcome Held). sheet_of o) (scan_3 _ _ _ (first b).requires.1.0 _ (found b).0 _ _ (told_refused _ _ _ _ _ _ _ _ c.before.before.before.query-at.ensures c.before.if2.true).0))
+    c.refused-then-q-ne0.ensures ∙ sym (ap (λ (o : Outcome Held). sheet_of o) (scan_3 _ _ _ (first b).requires.1.0 _ (found b).0 _ _ (told_refused _ _ _ _ _ _ _ _ c.query_at-q.ensures c.if-q-ne0.true).0))
 
-mul-refused : tie.Need-overflow-mul-refused
-mul-refused c = omega (arith, few (first (second c.before.before)))
+overflow_mul-places-then-q-src : tie.Need-overflow_mul-places-then-q-src
+overflow_mul-places-then-q-src c = omega (arith, few (first (second c.before.before)))
 
-add-refused : tie.Need-overflow-add-refused
-add-refused c = omega (arith, few (first (second c.before.before)))
+overflow_add-places-then-q-src : tie.Need-overflow_add-places-then-q-src
+overflow_add-places-then-q-src c = omega (arith, few (first (second c.before.before)))
 
-refused-requires-3 : tie.Need-refused-requires-3
-refused-requires-3 c κs = search rules
+refused-requires-then-q-src : tie.Need-refused-requires-then-q-src
+refused-requires-then-q-src c κs = search rules
 
-returns-3 : tie.Need-returns-3
-returns-3 c =
+returns-then-q-src : tie.Need-returns-then-q-src
+returns-then-q-src c =
     let d = c.before.before.before in
     let b = second d in
-    c.refused3.ensures ∙ sym (ap (λ (o : Outcome Held). sheet_of o) (scan_53 _ _ _ (first b).pre.1.0 _ (found b).0 _ _ (query d).0 _ _ (drop-cons _ _ 0 c.before.if3.true)))
+    c.refused-then-q-src.ensures ∙ sym (ap (λ (o : Outcome Held). sheet_of o) (scan_53 _ _ _ (first b).requires.1.0 _ (found b).0 _ _ (query d).0 _ _ (drop-cons _ _ 0 c.if-q-src.true)))
 
-returns-4 : tie.Need-returns-4
-returns-4 c =
+returns : tie.Need-returns
+returns c =
     let d = c.before.before in
     let b = second d in
-    scan_all _ _ _ (first b).pre.1.0 _ (found b).0 _ _ (query d).0 (drop_of_length-le _ c.if3.false)
+    scan_all _ _ _ (first b).requires.1.0 _ (found b).0 _ _ (query d).0 (drop_of_length-le _ c.if-q-src.false)
 
 pub ending_spec : {M : Type 1} → statement M
 ending_spec =
     tie.close
-    (tie.spec
-    refused-requires
-    returns
-    mul-query-at
-    add-query-at
-    query-at-requires
-    refused-requires-2
-    returns-2
-    mul-refused
-    add-refused
-    refused-requires-3
-    returns-3
-    returns-4)
+    (tie.spec refused-requires returns-then-p-ne0 overflow_mul-places overflow_add-places query_at-q-requires refused-requires-then-q-ne0 returns-then-q-ne0 overflow_mul-places-then-q-src overflow_add-places-then-q-src refused-requires-then-q-src returns-then-q-src returns)

@@ -10,57 +10,46 @@ use borrow.Author.Rules.{rules}
 use Rattle.scan.proofs.places_at.Statement.{statement}
 use Rattle.scan.proofs.places_at.Tie as tie
 
-abbrev invariant-loop : tie.invariant-loop
-invariant-loop src at places from₀ i₀ from i = (l : List Place) × Passed place_part 4 place_lines src (drop at src) places 3 i from l
+abbrev invariant-loop-i : tie.invariant-loop-i
+invariant-loop-i src at places from₀ i₀ from i = (l : List Place) × Passed place_part 4 place_lines src (drop at src) places 3 i from l
 
-abbrev decreases-loop : tie.decreases-loop
-decreases-loop src at places from₀ i₀ from i = places - i
+abbrev decreases-loop-i : tie.decreases-loop-i
+decreases-loop-i src at places from₀ i₀ from i = places - i
 
-loop-holds : tie.Need-loop-init invariant-loop decreases-loop
-loop-holds c = ([], passed_none place_part 4 place_lines _ _ _ 3 (omega arith))
+loop-i-init : tie.Need-loop-i-init invariant-loop-i decreases-loop-i
+loop-i-init c = ([], passed_none place_part 4 place_lines _ _ _ 3 (omega arith))
 
-mul-place-at : tie.Need-overflow-mul-place-at invariant-loop decreases-loop
-mul-place-at c = omega (arith, c.before.before.before.requires)
+overflow_mul-i : tie.Need-overflow_mul-i invariant-loop-i decreases-loop-i
+overflow_mul-i c = omega (arith, c.requires)
 
-add-place-at : tie.Need-overflow-add-place-at invariant-loop decreases-loop
-add-place-at c = omega (arith, c.before.before.before.requires)
+overflow_add-i : tie.Need-overflow_add-i invariant-loop-i decreases-loop-i
+overflow_add-i c = omega (arith, c.requires)
 
-place-at-requires : tie.Need-place-at-requires invariant-loop decreases-loop
-place-at-requires c κs = (c.before.loop.invariant.1.inside, (omega (arith, c.before.before.before.requires), omega (arith, c.before.before.before.requires)))
+place_at-p-requires : tie.Need-place_at-p-requires invariant-loop-i decreases-loop-i
+place_at-p-requires c κs = (c.loop-i.invariant.1.inside, (omega (arith, c.requires), omega (arith, c.requires)))
 
-returns : tie.Need-returns invariant-loop decreases-loop
-returns c =
-    let l = c.before.before.before.before.loop in
-    let w = told_refused _ _ _ _ _ _ _ _ c.before.before.place_at.ensures c.if1.true in
-    passed_refusal _ _ _ _ (passed_refused place_part 4 place_lines _ _ _ 3 _ _ _ l.invariant.1 c.before.before.before.loop-test.true _ _ w.0, w.1)
+returns-then-p-ne0 : tie.Need-returns-then-p-ne0 invariant-loop-i decreases-loop-i
+returns-then-p-ne0 c =
+    let l = c.loop-i in
+    let w = told_refused _ _ _ _ _ _ _ _ c.place_at-p.ensures c.if-p-ne0.true in
+    passed_refusal _ _ _ _ (passed_refused place_part 4 place_lines _ _ _ 3 _ _ _ l.invariant.1 c.loop-i-test.true _ _ w.0, w.1)
 
-add-i : tie.Need-overflow-add-i invariant-loop decreases-loop
-add-i c = search rules
+overflow_add-i-in-loop-i : tie.Need-overflow_add-i-in-loop-i invariant-loop-i decreases-loop-i
+overflow_add-i-in-loop-i c = search rules
 
-loop-less : tie.Need-loop-smaller invariant-loop decreases-loop
-loop-less c = search rules
+loop-i-smaller : tie.Need-loop-i-smaller invariant-loop-i decreases-loop-i
+loop-i-smaller c = search rules
 
-loop-again : tie.Need-loop-preserved invariant-loop decreases-loop
-loop-again c =
-    let l = c.before.before.before.before.loop in
-    let w = told_got _ _ _ _ _ _ _ _ c.before.before.place_at.ensures c.if1.false in
-    (_, passed_more place_part 4 place_lines _ _ _ 3 _ _ _ l.invariant.1 c.before.before.before.loop-test.true _ _ w.1 w.0)
+loop-i-preserved : tie.Need-loop-i-preserved invariant-loop-i decreases-loop-i
+loop-i-preserved c =
+    let l = c.loop-i in
+    let w = told_got _ _ _ _ _ _ _ _ c.place_at-p.ensures c.if-p-ne0.false in
+    (_, passed_more place_part 4 place_lines _ _ _ 3 _ _ _ l.invariant.1 c.loop-i-test.true _ _ w.1 w.0)
 
-returns-2 : tie.Need-returns-2 invariant-loop decreases-loop
-returns-2 c = let l = c.before.loop in passed_well _ _ _ _ (passed_all place_part 4 place_lines _ _ _ 3 _ _ _ l.invariant.1 c.loop-test.false) l.invariant.1.inside
+returns : tie.Need-returns invariant-loop-i decreases-loop-i
+returns c = let l = c.loop-i in passed_well _ _ _ _ (passed_all place_part 4 place_lines _ _ _ 3 _ _ _ l.invariant.1 c.loop-i-test.false) l.invariant.1.inside
 
 pub places_at_spec : {M : Type 1} → statement M
 places_at_spec =
     tie.close
-    (tie.spec
-    invariant-loop
-    decreases-loop
-    loop-holds
-    mul-place-at
-    add-place-at
-    place-at-requires
-    returns
-    add-i
-    loop-less
-    loop-again
-    returns-2)
+    (tie.spec invariant-loop-i decreases-loop-i loop-i-init overflow_mul-i overflow_add-i place_at-p-requires returns-then-p-ne0 overflow_add-i-in-loop-i loop-i-smaller loop-i-preserved returns)

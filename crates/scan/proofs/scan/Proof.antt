@@ -8,20 +8,20 @@ use borrow.Author.Rules.{rules}
 use Rattle.scan.proofs.scan.Statement.{statement}
 use Rattle.scan.proofs.scan.Tie as tie
 
-head-of-requires : tie.Need-head-of-requires
-head-of-requires c κs = search rules
+head_of-h-requires : tie.Need-head_of-h-requires
+head_of-h-requires c κs = search rules
 
 refused-requires : tie.Need-refused-requires
 refused-requires c κs = search rules
 
+returns-then-h-ne0 : tie.Need-returns-then-h-ne0
+returns-then-h-ne0 c = c.refused.ensures ∙ sym (ap (λ (o : Outcome Held). sheet_of o) (scan_1 _ _ _ (told_refused _ _ _ _ _ _ _ _ c.head_of-h.ensures c.if-h-ne0.true).0))
+
+rest_of-requires : tie.Need-rest_of-requires
+rest_of-requires c κs = let w = told_got _ _ _ _ _ _ _ _ c.head_of-h.ensures c.if-h-ne0.false in (w.1, w.0)
+
 returns : tie.Need-returns
-returns c = c.refused.ensures ∙ sym (ap (λ (o : Outcome Held). sheet_of o) (scan_1 _ _ _ (told_refused _ _ _ _ _ _ _ _ c.before.before.before.head_of.ensures c.before.if1.true).0))
-
-rest-of-requires : tie.Need-rest-of-requires
-rest-of-requires c κs = let w = told_got _ _ _ _ _ _ _ _ c.before.before.head_of.ensures c.if1.false in (w.1, w.0)
-
-returns-2 : tie.Need-returns-2
-returns-2 c = c.rest_of.ensures
+returns c = c.rest_of.ensures
 
 pub scan_spec : {M : Type 1} → statement M
-scan_spec = tie.close (tie.spec head-of-requires refused-requires returns rest-of-requires returns-2)
+scan_spec = tie.close (tie.spec head_of-h-requires refused-requires returns-then-h-ne0 rest_of-requires returns)

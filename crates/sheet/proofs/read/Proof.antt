@@ -17,40 +17,40 @@ use borrow.Author.Rules.{rules}
 use Rattle.sheet.proofs.read.Statement.{statement}
 use Rattle.sheet.proofs.read.Tie as tie
 
-abbrev start : tie.After-scan → tie.Start
+abbrev start : tie.After-scan-r → tie.Start
 start c = c.before.before.before
 
 -- what is known after the first pass
-held : (c : tie.Else1) → (let b = c.before.before in (h : Held) × ((read_sheet (start b).args.src.now ≡ accepted h) × (b.scan.result ≡ sheet_of (accepted h))))
-held c = is_accepted _ _ c.before.before.scan.ensures c.if1.false
+held : (c : tie.Else-r-ne0) → (let b = c.before.before in (h : Held) × ((read_sheet (start b).args.src.now ≡ accepted h) × (b.scan-r.result ≡ sheet_of (accepted h))))
+held c = is_accepted _ _ c.scan-r.ensures c.if-r-ne0.false
 
-many : (c : tie.Else1) → places (held c).0.table ≡ c.before.before.scan.result.places
+many : (c : tie.Else-r-ne0) → places (held c).0.table ≡ c.scan-r.result.places
 many c = sym (ap (λ (r : Sheet). r.places) (held c).1.1)
 
-room : (c : tie.After-least2) → (let a = (start c.before.before.before.before).args in c.least2.result ≡ room_in a.x.now a.y.now a.kit.now)
-room c = c.least2.ensures ∙ ap (λ (n : ℕ). min (length (start c.before.before.before.before).args.x.now) n) c.before.least.ensures
+room : (c : tie.After-least-2) → (let a = (start c.before.before.before.before).args in c.least-2.result ≡ room_in a.x.now a.y.now a.kit.now)
+room c = c.least-2.ensures ∙ ap (λ (n : ℕ). min (length (start c.before.before.before.before).args.x.now) n) c.least.ensures
 
 -- and of the head, which is read anew
-abbrev passed : tie.After-head-of → tie.Else1
+abbrev passed : tie.After-head_of-h → tie.Else-r-ne0
 passed c = c.before.before.before.before.before
 
-head : (c : tie.After-head-of) → (let s = (start (passed c).before.before).args.src.now in let r = c.head_of.result in (head_part.read 1 s ≡ got r.places (drop r.next s)) × (r.next ≤ length s))
+head : (c : tie.After-head_of-h) → (let s = (start (passed c).before.before).args.src.now in let r = c.head_of-h.result in (head_part.read 1 s ≡ got r.places (drop r.next s)) × (r.next ≤ length s))
 head c =
     let s = (start (passed c).before.before).args.src.now in
     let g = head_part.read 1 s in
-    let r = c.head_of.result in
+    let r = c.head_of-h.result in
     let h = held (passed c) in
-    told_got s g 0 0 r.code r.at r.next r.places c.head_of.ensures
-    (fine_code g r.code r.at (head_fine s h.0 h.1.0) (λ n. (told_refused s g 0 0 r.code r.at r.next r.places c.head_of.ensures n).0))
+    told_got s g 0 0 r.code r.at r.next r.places c.head_of-h.ensures
+    (fine_code g r.code r.at (head_fine s h.0 h.1.0) (λ n. (told_refused s g 0 0 r.code r.at r.next r.places c.head_of-h.ensures n).0))
 
-enough : (c : tie.After-head-of) → (let a = (start (passed c).before.before).args in places (held (passed c)).0.table ≤ room_in a.x.now a.y.now a.kit.now)
-enough c = omega (arith, many (passed c), room c.before.before.before, c.before.if2.false)
+enough : (c : tie.After-head_of-h) → (let a = (start (passed c).before.before).args in places (held (passed c)).0.table ≤ room_in a.x.now a.y.now a.kit.now)
+enough c = omega (arith, many (passed c), room c.before.before.before, c.if-least-r.false)
 
-scan-requires : tie.Need-scan-requires
-scan-requires c κs = search rules
+scan-r-requires : tie.Need-scan-r-requires
+scan-r-requires c κs = search rules
 
-returns : tie.Need-returns
-returns c = done_refused _ _ c.before.before.scan.ensures _ _ _ _ c.if1.true
+returns-then-r-ne0 : tie.Need-returns-then-r-ne0
+returns-then-r-ne0 c = done_refused _ _ c.scan-r.ensures _ _ _ _ c.if-r-ne0.true
 
 least-requires : tie.Need-least-requires
 least-requires c κs = search rules
@@ -61,14 +61,14 @@ least-requires-2 c κs = search rules
 refused-requires : tie.Need-refused-requires
 refused-requires c κs = search rules
 
-returns-2 : tie.Need-returns-2
-returns-2 c =
+returns-then-least-r : tie.Need-returns-then-least-r
+returns-then-least-r c =
     let b = c.before.before.before in
     let h = held b.before.before in
-    done_54 _ h.0 h.1.0 _ _ _ _ _ c.refused.ensures (omega (arith, many b.before.before, room b, c.before.if2.true))
+    done_54 _ h.0 h.1.0 _ _ _ _ _ c.refused.ensures (omega (arith, many b.before.before, room b, c.if-least-r.true))
 
-head-of-requires : tie.Need-head-of-requires
-head-of-requires c κs = search rules
+head_of-h-requires : tie.Need-head_of-h-requires
+head_of-h-requires c κs = search rules
 
 fill-requires : tie.Need-fill-requires
 fill-requires c κs =
@@ -78,17 +78,17 @@ fill-requires c κs =
     let e = enough b in
     (((head b).1, head_few _ _ _ _ (head b).0), (omega (arith, w, e), (omega (arith, w, e), omega (arith, w, e))))
 
-same_length : tie.Need-same-length
-same_length c = search rules
+shape_of-x : tie.Need-shape_of-x
+shape_of-x c = search rules
 
-same-length-2 : tie.Need-same-length-2
-same-length-2 c = search rules
+shape_of-y : tie.Need-shape_of-y
+shape_of-y c = search rules
 
-same-length-3 : tie.Need-same-length-3
-same-length-3 c = search rules
+shape_of-kit : tie.Need-shape_of-kit
+shape_of-kit c = search rules
 
-returns-3 : tie.Need-returns-3
-returns-3 c =
+returns : tie.Need-returns
+returns c =
     let f = c.before.before.before.before in
     let b = f.before.before.before.before in
     let h = held (passed b) in
@@ -97,16 +97,4 @@ returns-3 c =
 pub read_spec : {M : Type 1} → statement M
 read_spec =
     tie.close
-    (tie.spec
-    scan-requires
-    returns
-    least-requires
-    least-requires-2
-    refused-requires
-    returns-2
-    head-of-requires
-    fill-requires
-    same_length
-    same-length-2
-    same-length-3
-    returns-3)
+    (tie.spec scan-r-requires returns-then-r-ne0 least-requires least-requires-2 refused-requires returns-then-least-r head_of-h-requires fill-requires shape_of-x shape_of-y shape_of-kit returns)

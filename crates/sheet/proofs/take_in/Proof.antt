@@ -15,65 +15,56 @@ use borrow.Author.Rules.{rules}
 use Rattle.sheet.proofs.take_in.Statement.{statement}
 use Rattle.sheet.proofs.take_in.Tie as tie
 
-abbrev start : tie.After-head-of → tie.Start
+abbrev start : tie.After-head_of-h → tie.Start
 start c = c.before.before.before
 
 -- what is known of the head
-head : (c : tie.Else1) → (let b = c.before.before in let s = (start b).args.src.now in let r = b.head_of.result in (head_part.read 1 s ≡ got r.places (drop r.next s)) × (r.next ≤ length s))
-head c = told_got _ _ _ _ _ _ _ _ c.before.before.head_of.ensures c.if1.false
+head : (c : tie.Else-h-ne0) → (let b = c.before.before in let s = (start b).args.src.now in let r = b.head_of-h.result in (head_part.read 1 s ≡ got r.places (drop r.next s)) × (r.next ≤ length s))
+head c = told_got _ _ _ _ _ _ _ _ c.head_of-h.ensures c.if-h-ne0.false
 
-few : (c : tie.Else1) → c.before.before.head_of.result.places ≤ 4096
+few : (c : tie.Else-h-ne0) → c.head_of-h.result.places ≤ 4096
 few c = head_few _ _ _ _ (head c).0
 
-abbrev first : tie.After-fill → tie.Else1
+abbrev first : tie.After-fill-p → tie.Else-h-ne0
 first c = c.before.before.before.before
 
-head-of-requires : tie.Need-head-of-requires
-head-of-requires c κs = search rules
+head_of-h-requires : tie.Need-head_of-h-requires
+head_of-h-requires c κs = search rules
 
 refused-requires : tie.Need-refused-requires
 refused-requires c κs = search rules
 
-returns : tie.Need-returns
-returns c =
-    let e = scan_1 _ _ _ (told_refused _ _ _ _ _ _ _ _ c.before.before.before.head_of.ensures c.before.if1.true).0 in
+returns-then-h-ne0 : tie.Need-returns-then-h-ne0
+returns-then-h-ne0 c =
+    let e = scan_1 _ _ _ (told_refused _ _ _ _ _ _ _ _ c.head_of-h.ensures c.if-h-ne0.true).0 in
     (c.refused.ensures ∙ sym (ap (λ (o : Outcome Held). sheet_of o) e), (not_taken _ _ _ e _ _ _, (not_taken _ _ _ e _ _ _, not_taken _ _ _ e _ _ _)))
 
-fill-requires : tie.Need-fill-requires
-fill-requires c κs =
+fill-p-requires : tie.Need-fill-p-requires
+fill-p-requires c κs =
     let b = c.before.before.before in
     let q = (start b.before.before).requires in
     (((head b).1, few b), (omega (arith, few b, q.0), (omega (arith, few b, q.1.0), omega (arith, few b, q.1.1))))
 
 ending-requires : tie.Need-ending-requires
-ending-requires c κs = let f = c.before.before.before.before in (_, ((head (first f)).0, f.fill.ensures.0))
+ending-requires c κs = let f = c.before.before.before.before in (_, ((head (first f)).0, f.fill-p.ensures.0))
 
-same_length : tie.Need-same-length
-same_length c = search rules
+shape_of-x : tie.Need-shape_of-x
+shape_of-x c = search rules
 
-same-length-2 : tie.Need-same-length-2
-same-length-2 c = search rules
+shape_of-y : tie.Need-shape_of-y
+shape_of-y c = search rules
 
-same-length-3 : tie.Need-same-length-3
-same-length-3 c = search rules
+shape_of-kit : tie.Need-shape_of-kit
+shape_of-kit c = search rules
 
-returns-2 : tie.Need-returns-2
-returns-2 c =
+returns : tie.Need-returns
+returns c =
     let f = c.before.before.before.before.before in
     let h = (head (first f)).0 in
-    let w = f.fill.ensures.1 in
+    let w = f.fill-p.ensures.1 in
     (c.ending.ensures, (taken _ _ _ h x_of (λ t. t.x) (λ l. refl) _ _ w.0, (taken _ _ _ h y_of (λ t. t.y) (λ l. refl) _ _ w.1.0, taken _ _ _ h word_of (λ t. t.kit) (λ l. refl) _ _ w.1.1)))
 
 pub take_in_spec : {M : Type 1} → statement M
 take_in_spec =
     tie.close
-    (tie.spec
-    head-of-requires
-    refused-requires
-    returns
-    fill-requires
-    ending-requires
-    same_length
-    same-length-2
-    same-length-3
-    returns-2)
+    (tie.spec head_of-h-requires refused-requires returns-then-h-ne0 fill-p-requires ending-requires shape_of-x shape_of-y shape_of-kit returns)

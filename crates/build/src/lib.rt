@@ -9,7 +9,7 @@ ghost use Rattle.verdict.specs.Rules.{verdict, says};
 ghost use Rattle.build.specs.Room.{build_rules, afterwards};
 
 // The builder's answer; the counts are 0 in a refusal.
-#[derive(Drop)]
+#[derive(Clone, Copy)]
 pub struct Built {
     pub code: u8,
     pub at: usize,

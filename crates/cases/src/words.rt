@@ -3,7 +3,7 @@ use crate::BUFFER;
 
 // How far the input has come: its buffer is unread from `at` to `end`. The last word is `value`.
 // Once something was missing or did not fit, all is `bad` and each word 0.
-#[derive(Drop)]
+#[derive(Clone, Copy)]
 pub struct Words {
     pub at: usize,
     pub end: usize,

@@ -6,14 +6,14 @@ ghost use Rattle.plane.specs.Plane.{outside, square, squared_of, rise, gap, Rang
 ghost use Rattle.plane.specs.Root.{Root};
 
 // The coordinates from `lo` to `hi`.
-#[derive(Drop)]
+#[derive(Clone, Copy)]
 pub struct Span {
     pub lo: i32,
     pub hi: i32,
 }
 
 // A box is two spans; a point's spans have equal ends.
-#[derive(Drop)]
+#[derive(Clone, Copy)]
 pub struct Box {
     pub x: Span,
     pub y: Span,

@@ -2,14 +2,14 @@ use native.Mathlib.Omega.{arith}
 use Rattle.marks.proofs.mark_of.Statement.{statement}
 use Rattle.marks.proofs.mark_of.Tie as tie
 
-add-result : tie.Need-overflow-add-result
-add-result c = omega arith
+overflow_add-result : tie.Need-overflow_add-result
+overflow_add-result c = omega arith
 
-returns : tie.Need-returns
-returns c = rw c.if1.true
+returns-then-leaf : tie.Need-returns-then-leaf
+returns-then-leaf c = rw c.if-leaf.true
 
-returns-2 : tie.Need-returns-2
-returns-2 c = rw c.if1.false
+returns-else-leaf : tie.Need-returns-else-leaf
+returns-else-leaf c = rw c.if-leaf.false
 
 pub mark_of_spec : {M : Type 1} → statement M
-mark_of_spec = tie.close (tie.spec add-result returns returns-2)
+mark_of_spec = tie.close (tie.spec overflow_add-result returns-then-leaf returns-else-leaf)

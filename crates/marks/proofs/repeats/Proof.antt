@@ -12,11 +12,11 @@ use Rattle.marks.proofs.RepeatLaws.{Compared, compared_first, compared_all, comp
 use Rattle.marks.proofs.repeats.Statement.{statement}
 use Rattle.marks.proofs.repeats.Tie as tie
 
-abbrev invariant-loop : tie.invariant-loop
-invariant-loop nodes listed level start count entries i n e leaf j₀ m₀ j m = Compared (shape nodes listed level start count entries) i j m
+abbrev invariant-loop-j : tie.invariant-loop-j
+invariant-loop-j nodes listed level start count entries i n e leaf j₀ m₀ j m = Compared (shape nodes listed level start count entries) i j m
 
-abbrev decreases-loop : tie.decreases-loop
-decreases-loop nodes listed level start count entries i n e leaf j₀ m₀ j m = i - j
+abbrev decreases-loop-j : tie.decreases-loop-j
+decreases-loop-j nodes listed level start count entries i n e leaf j₀ m₀ j m = i - j
 
 abbrev invariant-search : tie.invariant-search
 invariant-search nodes listed level start count entries i₀ n₀ i n =
@@ -26,109 +26,87 @@ invariant-search nodes listed level start count entries i₀ n₀ i n =
 abbrev decreases-search : tie.decreases-search
 decreases-search nodes listed level start count entries i₀ n₀ i n = listed - i
 
-abbrev tree : tie.At-search invariant-loop decreases-loop invariant-search decreases-search → Shape
-tree c = let a = c.before.before.before.before.before.args in shape a.nodes a.listed a.level.now a.start.now a.count.now a.entries.now
+abbrev tree : tie.At-search invariant-loop-j decreases-loop-j invariant-search decreases-search → Shape
+tree c = let a = c.args in shape a.nodes a.listed a.level.now a.start.now a.count.now a.entries.now
 
-runs : (c : tie.At-search invariant-loop decreases-loop invariant-search decreases-search) → Runs (tree c)
-runs c = runs_of c.before.before.before.before.before.requires.1
+runs : (c : tie.At-search invariant-loop-j decreases-loop-j invariant-search decreases-search) → Runs (tree c)
+runs c = runs_of c.requires.1
 
-search-holds : tie.Need-search-init invariant-loop decreases-loop invariant-search decreases-search
-search-holds c = walked_first (runs_of c.before.before.before.before.requires.1) _
+search-init : tie.Need-search-init invariant-loop-j decreases-loop-j invariant-search decreases-search
+search-init c = walked_first (runs_of c.requires.1) _
 
-mul-e : tie.Need-overflow-mul-e invariant-loop decreases-loop invariant-search decreases-search
-mul-e c = search rules
+offset_bounds-entries-i : tie.Need-offset_bounds-entries-i invariant-loop-j decreases-loop-j invariant-search decreases-search
+offset_bounds-entries-i c = search rules
 
-shared-slice-read-e : tie.Need-shared-slice-read-e invariant-loop decreases-loop invariant-search decreases-search
-shared-slice-read-e c = search rules
+bounds-entries-i : tie.Need-bounds-entries-i invariant-loop-j decreases-loop-j invariant-search decreases-search
+bounds-entries-i c = search rules
 
-shared-slice-read-leaf : tie.Need-shared-slice-read-leaf invariant-loop decreases-loop invariant-search decreases-search
-shared-slice-read-leaf c =
+bounds-level-n : tie.Need-bounds-level-n invariant-loop-j decreases-loop-j invariant-search decreases-search
+bounds-level-n c =
     let t = c.before.before in
-    omega (arith, t.before.search.invariant.stands t.search-test.true)
+    omega (arith, t.search.invariant.stands t.search-test.true)
 
-loop-holds : tie.Need-loop-init invariant-loop decreases-loop invariant-search decreases-search
-loop-holds c =
+loop-j-init : tie.Need-loop-j-init invariant-loop-j decreases-loop-j invariant-search decreases-search
+loop-j-init c =
     let t = c.before.before in
     compared_first (runs t.before) t.search-test.true
 
-mul-if1 : tie.Need-overflow-mul-if1 invariant-loop decreases-loop invariant-search decreases-search
-mul-if1 c = search rules
+offset_bounds-entries-j : tie.Need-offset_bounds-entries-j invariant-loop-j decreases-loop-j invariant-search decreases-search
+offset_bounds-entries-j c = search rules
 
-shared-slice-read-if1 : tie.Need-shared-slice-read-if1 invariant-loop decreases-loop invariant-search decreases-search
-shared-slice-read-if1 c = search rules
+bounds-entries-j : tie.Need-bounds-entries-j invariant-loop-j decreases-loop-j invariant-search decreases-search
+bounds-entries-j c = search rules
 
-shared-slice-read-if2 : tie.Need-shared-slice-read-if2 invariant-loop decreases-loop invariant-search decreases-search
-shared-slice-read-if2 c = search rules
+bounds-level-m : tie.Need-bounds-level-m invariant-loop-j decreases-loop-j invariant-search decreases-search
+bounds-level-m c = search rules
 
-add-j : tie.Need-overflow-add-j invariant-loop decreases-loop invariant-search decreases-search
-add-j c = search rules
+overflow_add-j : tie.Need-overflow_add-j invariant-loop-j decreases-loop-j invariant-search decreases-search
+overflow_add-j c = search rules
 
-moved-requires : tie.Need-moved-requires invariant-loop decreases-loop invariant-search decreases-search
-moved-requires c κs = omega arith
+moved-m-requires : tie.Need-moved-m-requires invariant-loop-j decreases-loop-j invariant-search decreases-search
+moved-m-requires c κs = omega arith
 
-loop-less : tie.Need-loop-smaller invariant-loop decreases-loop invariant-search decreases-search
-loop-less c = search rules
+loop-j-smaller : tie.Need-loop-j-smaller invariant-loop-j decreases-loop-j invariant-search decreases-search
+loop-j-smaller c = search rules
 
-loop-again : tie.Need-loop-preserved invariant-loop decreases-loop invariant-search decreases-search
-loop-again c =
+loop-j-preserved : tie.Need-loop-j-preserved invariant-loop-j decreases-loop-j invariant-search decreases-search
+loop-j-preserved c =
     let l = c.before.before.before in
     let t = l.before.before.before.before in
-    rw c.moved.ensures
-    (compared_more (runs t.before) t.before.search.invariant t.search-test.true l.before.loop.invariant l.loop-test.true
-    (λ u. ⊎_elim (λ w. beq_false _ _ w.2.left u.1) (λ w. w.left u.0) c.before.if1.branch))
+    rw c.moved-m.ensures
+    (compared_more (runs t.before) t.search.invariant t.search-test.true l.loop-j.invariant l.loop-j-test.true
+    (λ u. ⊎_elim (λ w. beq_false _ _ w.if-level-m.false u.1) (λ w. w.if-entries-j.false u.0) c.else-entries-j.branch-raw))
 
-add-i : tie.Need-overflow-add-i invariant-loop decreases-loop invariant-search decreases-search
-add-i c = search rules
+overflow_add-i : tie.Need-overflow_add-i invariant-loop-j decreases-loop-j invariant-search decreases-search
+overflow_add-i c = search rules
 
-moved-requires-2 : tie.Need-moved-requires-2 invariant-loop decreases-loop invariant-search decreases-search
-moved-requires-2 c κs =
+moved-n-requires : tie.Need-moved-n-requires invariant-loop-j decreases-loop-j invariant-search decreases-search
+moved-n-requires c κs =
     let t = c.before.before.before.before in
-    omega (arith, t.before.search.invariant.stands t.search-test.true)
+    omega (arith, t.search.invariant.stands t.search-test.true)
 
-search-less : tie.Need-search-smaller invariant-loop decreases-loop invariant-search decreases-search
-search-less c = search rules
+search-smaller : tie.Need-search-smaller invariant-loop-j decreases-loop-j invariant-search decreases-search
+search-smaller c = search rules
 
-search-again : tie.Need-search-preserved invariant-loop decreases-loop invariant-search decreases-search
-search-again c =
+search-preserved : tie.Need-search-preserved invariant-loop-j decreases-loop-j invariant-search decreases-search
+search-preserved c =
     let l = c.before.before in
     let t = l.before.before.before in
-    rw c.moved2.ensures
-    (walked_more (runs t.before) _ t.before.search.invariant t.search-test.true
-    (compared_all l.loop.invariant c.before.loop-test.false))
+    rw c.moved-n.ensures
+    (walked_more (runs t.before) _ t.search.invariant t.search-test.true
+    (compared_all l.loop-j.invariant c.loop-j-test.false))
 
-returns : tie.Need-returns invariant-loop decreases-loop invariant-search decreases-search
-returns c =
+returns-then-i-listed : tie.Need-returns-then-i-listed invariant-loop-j decreases-loop-j invariant-search decreases-search
+returns-then-i-listed c =
     let t = c.before.before in
     ⊎_elim (λ w. absurd (omega arith))
-    (λ w. repeated (runs t) t.search.invariant w.0.true w.3.inv w.4.true (w.6.true, beq_true _ _ w.8.true))
-    c.before.search-test.branch
+    (λ w. repeated (runs t) t.search.invariant w.search-test.true w.loop-j.invariant w.loop-j-test.true (w.if-entries-j.true, beq_true _ _ w.if-level-m.true))
+    c.search-test.branch-raw
 
-returns-2 : tie.Need-returns-2 invariant-loop decreases-loop invariant-search decreases-search
-returns-2 c = none_repeated c.before.before.search.invariant c.if3.false
+returns-else-i-listed : tie.Need-returns-else-i-listed invariant-loop-j decreases-loop-j invariant-search decreases-search
+returns-else-i-listed c = none_repeated c.search.invariant c.if-i-listed.false
 
 pub repeats_spec : {M : Type 1} → statement M
 repeats_spec =
     tie.close
-    (tie.spec
-    invariant-loop
-    decreases-loop
-    invariant-search
-    decreases-search
-    search-holds
-    mul-e
-    shared-slice-read-e
-    shared-slice-read-leaf
-    loop-holds
-    mul-if1
-    shared-slice-read-if1
-    shared-slice-read-if2
-    add-j
-    moved-requires
-    loop-less
-    loop-again
-    add-i
-    moved-requires-2
-    search-less
-    search-again
-    returns
-    returns-2)
+    (tie.spec invariant-loop-j decreases-loop-j invariant-search decreases-search search-init offset_bounds-entries-i bounds-entries-i bounds-level-n loop-j-init offset_bounds-entries-j bounds-entries-j bounds-level-m overflow_add-j moved-m-requires loop-j-smaller loop-j-preserved overflow_add-i moved-n-requires search-smaller search-preserved returns-then-i-listed returns-else-i-listed)

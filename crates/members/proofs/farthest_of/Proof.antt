@@ -13,80 +13,68 @@ use Rattle.members.proofs.BoxesLaws.{skip_le, others_ranged, others_next, others
 use Rattle.members.proofs.farthest_of.Statement.{statement}
 use Rattle.members.proofs.farthest_of.Tie as tie
 
-abbrev invariant-loop : tie.invariant-loop
-invariant-loop m west east south north i from b least most₀ k₀ most k =
+abbrev invariant-loop-k : tie.invariant-loop-k
+invariant-loop-k m west east south north i from b least most₀ k₀ most k =
     (k ≤ 8) × (max most (farthest b (drop k (without i (take m (boxes_at (sides west east south north)))))) ≡ max least (farthest b (drop from (without i (take m (boxes_at (sides west east south north)))))))
 
-abbrev decreases-loop : tie.decreases-loop
-decreases-loop m west east south north i from b least most₀ k₀ most k = m - k
+abbrev decreases-loop-k : tie.decreases-loop-k
+decreases-loop-k m west east south north i from b least most₀ k₀ most k = m - k
 
-abbrev over : tie.Start invariant-loop decreases-loop → Sides
+abbrev over : tie.Start invariant-loop-k decreases-loop-k → Sides
 over s = sides s.args.west.now s.args.east.now s.args.south.now s.args.north.now
 
 -- the box that is read
-read : (u : tie.After-box-in invariant-loop decreases-loop) →
+read : (u : tie.After-box_in-c invariant-loop-k decreases-loop-k) →
     let l = u.before.before.before in
-    u.box_in.result ≡ box_at (over l.before) (skip l.before.args.i l.loop.k)
-read u = u.box_in.ensures ∙ ap (box_at (over u.before.before.before.before)) u.before.skipping.ensures
+    u.box_in-c.result ≡ box_at (over l.before) (skip l.args.i l.loop-k.k)
+read u = u.box_in-c.ensures ∙ ap (box_at (over u.before.before.before.before)) u.skipping.ensures
 
-loop-holds : tie.Need-loop-init invariant-loop decreases-loop
-loop-holds c = (c.requires.0.1.1, refl)
+loop-k-init : tie.Need-loop-k-init invariant-loop-k decreases-loop-k
+loop-k-init c = (c.requires.0.1.1, refl)
 
-add-loop : tie.Need-overflow-add-loop invariant-loop decreases-loop
-add-loop c = omega arith
+overflow_add-k : tie.Need-overflow_add-k invariant-loop-k decreases-loop-k
+overflow_add-k c = omega arith
 
-skipping-requires : tie.Need-skipping-requires invariant-loop decreases-loop
+skipping-requires : tie.Need-skipping-requires invariant-loop-k decreases-loop-k
 skipping-requires c κs = omega arith
 
-box-in-requires : tie.Need-box-in-requires invariant-loop decreases-loop
-box-in-requires c κs = omega (arith, c.skipping.ensures, skip_le c.before.before.before.args.i c.before.before.loop.k)
+box_in-c-requires : tie.Need-box_in-c-requires invariant-loop-k decreases-loop-k
+box_in-c-requires c κs = omega (arith, c.skipping.ensures, skip_le c.args.i c.loop-k.k)
 
-apart-of-requires : tie.Need-apart-of-requires invariant-loop decreases-loop
-apart-of-requires c κs =
+apart_of-requires : tie.Need-apart_of-requires invariant-loop-k decreases-loop-k
+apart_of-requires c κs =
     let l = c.before.before.before in
     let s = l.before in
-    (s.requires.1.1, subst Ranged (sym (read c)) (others_ranged s.args.m (over s) s.requires.0.0 s.args.i l.loop.k s.requires.1.0 c.before.before.loop-test.true))
+    (s.requires.1.1, subst Ranged (sym (read c)) (others_ranged s.args.m (over s) s.requires.0.0 s.args.i l.loop-k.k s.requires.1.0 c.loop-k-test.true))
 
-larger-requires : tie.Need-larger-requires invariant-loop decreases-loop
-larger-requires c κs = tt
+larger-most-requires : tie.Need-larger-most-requires invariant-loop-k decreases-loop-k
+larger-most-requires c κs = tt
 
-add-k : tie.Need-overflow-add-k invariant-loop decreases-loop
-add-k c = omega arith
+overflow_add-k-in-loop-k : tie.Need-overflow_add-k-in-loop-k invariant-loop-k decreases-loop-k
+overflow_add-k-in-loop-k c = omega arith
 
-loop-less : tie.Need-loop-smaller invariant-loop decreases-loop
-loop-less c = omega arith
+loop-k-smaller : tie.Need-loop-k-smaller invariant-loop-k decreases-loop-k
+loop-k-smaller c = omega arith
 
-loop-again : tie.Need-loop-preserved invariant-loop decreases-loop
-loop-again c =
-    let x : tie.After-box-in invariant-loop decreases-loop = c.before.before in
+loop-k-preserved : tie.Need-loop-k-preserved invariant-loop-k decreases-loop-k
+loop-k-preserved c =
+    let x : tie.After-box_in-c invariant-loop-k decreases-loop-k = c.before.before in
     let l = x.before.before.before in
     let s = l.before in
     let a = s.args in
     let others = without a.i (take a.m (boxes_at (over s))) in
-    let next = others_next a.m (over s) s.requires.0.0 a.i l.loop.k s.requires.0.1.0 x.before.before.loop-test.true in
-    let is : c.larger.result ≡ max l.loop.most (apart a.b (box_at (over s) (skip a.i l.loop.k))) = c.larger.ensures ∙ ap (max l.loop.most) (c.before.Apart-of.ensures ∙ ap (apart a.b) (read x)) in
-    (omega arith, ap (λ (n : ℕ). max n (farthest a.b (drop (l.loop.k + 1) others))) is ∙ farthest_more a.b _ l.loop.most next ∙ l.loop.invariant.1)
+    let next = others_next a.m (over s) s.requires.0.0 a.i l.loop-k.k s.requires.0.1.0 x.loop-k-test.true in
+    let is : c.larger-most.result ≡ max l.loop-k.most (apart a.b (box_at (over s) (skip a.i l.loop-k.k))) = c.larger-most.ensures ∙ ap (max l.loop-k.most) (c.before.apart_of.ensures ∙ ap (apart a.b) (read x)) in
+    (omega arith, ap (λ (n : ℕ). max n (farthest a.b (drop (l.loop-k.k + 1) others))) is ∙ farthest_more a.b _ l.loop-k.most next ∙ l.loop-k.invariant.1)
 
-returns : tie.Need-returns invariant-loop decreases-loop
+returns : tie.Need-returns invariant-loop-k decreases-loop-k
 returns c =
-    let l = c.before.loop in
+    let l = c.loop-k in
     let s = c.before.before in
     let a = s.args in
-    sym (farthest_done a.b l.most (others_done a.m (over s) s.requires.0.0 a.i l.k s.requires.0.1.0 c.loop-test.false)) ∙ l.invariant.1
+    sym (farthest_done a.b l.most (others_done a.m (over s) s.requires.0.0 a.i l.k s.requires.0.1.0 c.loop-k-test.false)) ∙ l.invariant.1
 
 pub farthest_of_spec : {M : Type 1} → statement M
 farthest_of_spec =
     tie.close
-    (tie.spec
-    invariant-loop
-    decreases-loop
-    loop-holds
-    add-loop
-    skipping-requires
-    box-in-requires
-    apart-of-requires
-    larger-requires
-    add-k
-    loop-less
-    loop-again
-    returns)
+    (tie.spec invariant-loop-k decreases-loop-k loop-k-init overflow_add-k skipping-requires box_in-c-requires apart_of-requires larger-most-requires overflow_add-k-in-loop-k loop-k-smaller loop-k-preserved returns)

@@ -34,38 +34,38 @@ module _ (g l : List ℕ) (d e : ℕ) where
 abbrev group : tie.Start → List ℕ
 group s = padded (take s.args.m (set s.args.numbers.now s.args.i s.args.p))
 
-returns : tie.Need-returns
+returns-then-not-known : tie.Need-returns-then-not-known
 unfolding improved
-returns c = rw (improved, not-true c.before.args.known c.if1.true)
+returns-then-not-known c = rw (improved, not-true c.args.known c.if-not-known.true)
 
 -- past the first test a best is known
-known : (c : tie.Else1) → true ≡ c.before.args.known
-known c = sym (not-false c.before.args.known c.if1.false)
+known : (c : tie.Else-not-known) → true ≡ c.args.known
+known c = sym (not-false c.args.known c.if-not-known.false)
 
-returns-2 : tie.Need-returns-2
-returns-2 c =
+returns-then-squared-least : tie.Need-returns-then-squared-least
+returns-then-squared-least c =
     let s = c.before.before in
     let a = s.args in
     subst (λ (k : Bool). improved (group s) a.squared (best_at k a.least a.places.now) ≡ best_at true a.squared (group s)) (known c.before)
-    (less (group s) a.places.now a.squared a.least c.if2.true)
+    (less (group s) a.places.now a.squared a.least c.if-squared-least.true)
 
-returns-3 : tie.Need-returns-3
-returns-3 c =
+returns-then-least-squared : tie.Need-returns-then-least-squared
+returns-then-least-squared c =
     let s = c.before.before.before in
     let a = s.args in
     subst (λ (k : Bool). improved (group s) a.squared (best_at k a.least a.places.now) ≡ best_at k a.least a.places.now) (known c.before.before)
-    (more (group s) a.places.now a.squared a.least c.if3.true)
+    (more (group s) a.places.now a.squared a.least c.if-least-squared.true)
 
-is-before-requires : tie.Need-is-before-requires
-is-before-requires c κs = search rules
+is_before-requires : tie.Need-is_before-requires
+is_before-requires c κs = search rules
 
-returns-4 : tie.Need-returns-4
-returns-4 c =
+returns : tie.Need-returns
+returns c =
     let s = c.before.before.before.before in
     let a = s.args in
-    let e = equal (group s) a.places.now a.squared a.least c.before.before.if2.false c.before.if3.false in
-    subst (λ (k : Bool). improved (group s) a.squared (best_at k a.least a.places.now) ≡ cond c.is-before.result (best_at true a.squared (group s)) (best_at k a.least a.places.now)) (known c.before.before.before)
-    (e ∙ ap (λ (r : Bool). cond r (best_at true a.squared (group s)) (best_at true a.least a.places.now)) (sym c.is-before.ensures))
+    let e = equal (group s) a.places.now a.squared a.least c.if-squared-least.false c.if-least-squared.false in
+    subst (λ (k : Bool). improved (group s) a.squared (best_at k a.least a.places.now) ≡ cond c.is_before.result (best_at true a.squared (group s)) (best_at k a.least a.places.now)) (known c.before.before.before)
+    (e ∙ ap (λ (r : Bool). cond r (best_at true a.squared (group s)) (best_at true a.least a.places.now)) (sym c.is_before.ensures))
 
 pub is_better_spec : {M : Type 1} → statement M
-is_better_spec = tie.close (tie.spec returns returns-2 returns-3 is-before-requires returns-4)
+is_better_spec = tie.close (tie.spec returns-then-not-known returns-then-squared-least returns-then-least-squared is_before-requires returns)

@@ -19,100 +19,87 @@ use Rattle.members.proofs.BoxesLaws.{skip_le, others_ranged, others_next, others
 use Rattle.members.proofs.is_near.Statement.{statement}
 use Rattle.members.proofs.is_near.Tie as tie
 
-abbrev invariant-loop : tie.invariant-loop
-invariant-loop m west east south north i b known squared k₀ k =
+abbrev invariant-loop-k : tie.invariant-loop-k
+invariant-loop-k m west east south north i b known squared k₀ k =
     (k ≤ 8) × (ltb squared (farthest b (drop k (without i (take m (boxes_at (sides west east south north)))))) ≡ ltb squared (farthest b (without i (take m (boxes_at (sides west east south north))))))
 
-abbrev decreases-loop : tie.decreases-loop
-decreases-loop m west east south north i b known squared k₀ k = m - k
+abbrev decreases-loop-k : tie.decreases-loop-k
+decreases-loop-k m west east south north i b known squared k₀ k = m - k
 
-abbrev over : tie.Start invariant-loop decreases-loop → Sides
+abbrev over : tie.Start invariant-loop-k decreases-loop-k → Sides
 over s = sides s.args.west.now s.args.east.now s.args.south.now s.args.north.now
 
-abbrev others : tie.Start invariant-loop decreases-loop → List Box
+abbrev others : tie.Start invariant-loop-k decreases-loop-k → List Box
 others s = without s.args.i (take s.args.m (boxes_at (over s)))
 
 -- the box that is read
-read : (u : tie.After-box-in invariant-loop decreases-loop) →
+read : (u : tie.After-box_in-c invariant-loop-k decreases-loop-k) →
     let l = u.before.before.before in
-    u.box_in.result ≡ box_at (over l.before.before) (skip l.before.before.args.i l.loop.k)
-read u = u.box_in.ensures ∙ ap (box_at (over u.before.before.before.before.before)) u.before.skipping.ensures
+    u.box_in-c.result ≡ box_at (over l.before.before) (skip l.args.i l.loop-k.k)
+read u = u.box_in-c.ensures ∙ ap (box_at (over u.before.before.before.before.before)) u.skipping.ensures
 
-distance : (u : tie.After-apart-of invariant-loop decreases-loop) →
+distance : (u : tie.After-apart_of invariant-loop-k decreases-loop-k) →
     let l = u.before.before.before.before in
     let s = l.before.before in
-    u.Apart-of.result ≡ apart s.args.b (box_at (over s) (skip s.args.i l.loop.k))
-distance u = u.Apart-of.ensures ∙ ap (apart u.before.before.before.before.before.before.args.b) (read u.before)
+    u.apart_of.result ≡ apart s.args.b (box_at (over s) (skip s.args.i l.loop-k.k))
+distance u = u.apart_of.ensures ∙ ap (apart u.args.b) (read u.before)
 
-returns : tie.Need-returns invariant-loop decreases-loop
-returns c = let s = c.before in sym (ap (λ (u : Bool). near u s.args.squared (farthest s.args.b (others s))) (not-true s.args.known c.if1.true))
+returns-then-not-known : tie.Need-returns-then-not-known invariant-loop-k decreases-loop-k
+returns-then-not-known c = let s = c.before in sym (ap (λ (u : Bool). near u s.args.squared (farthest s.args.b (others s))) (not-true s.args.known c.if-not-known.true))
 
-loop-holds : tie.Need-loop-init invariant-loop decreases-loop
-loop-holds c = (omega arith, refl)
+loop-k-init : tie.Need-loop-k-init invariant-loop-k decreases-loop-k
+loop-k-init c = (omega arith, refl)
 
-add-loop : tie.Need-overflow-add-loop invariant-loop decreases-loop
-add-loop c = omega arith
+overflow_add-k : tie.Need-overflow_add-k invariant-loop-k decreases-loop-k
+overflow_add-k c = omega arith
 
-skipping-requires : tie.Need-skipping-requires invariant-loop decreases-loop
+skipping-requires : tie.Need-skipping-requires invariant-loop-k decreases-loop-k
 skipping-requires c κs = omega arith
 
-box-in-requires : tie.Need-box-in-requires invariant-loop decreases-loop
-box-in-requires c κs = omega (arith, c.skipping.ensures, skip_le c.before.before.before.before.args.i c.before.before.loop.k)
+box_in-c-requires : tie.Need-box_in-c-requires invariant-loop-k decreases-loop-k
+box_in-c-requires c κs = omega (arith, c.skipping.ensures, skip_le c.args.i c.loop-k.k)
 
-apart-of-requires : tie.Need-apart-of-requires invariant-loop decreases-loop
-apart-of-requires c κs =
+apart_of-requires : tie.Need-apart_of-requires invariant-loop-k decreases-loop-k
+apart_of-requires c κs =
     let l = c.before.before.before in
     let s = l.before.before in
-    (s.requires.1.1, subst Ranged (sym (read c)) (others_ranged s.args.m (over s) s.requires.0.0 s.args.i l.loop.k s.requires.1.0 c.before.before.loop-test.true))
+    (s.requires.1.1, subst Ranged (sym (read c)) (others_ranged s.args.m (over s) s.requires.0.0 s.args.i l.loop-k.k s.requires.1.0 c.loop-k-test.true))
 
 -- a group is known
-decided : (s : tie.Start invariant-loop decreases-loop) (u : Bool) → s.args.known ≡ true → ltb s.args.squared (farthest s.args.b (others s)) ≡ u → cond u false true ≡ near s.args.known s.args.squared (farthest s.args.b (others s))
+decided : (s : tie.Start invariant-loop-k decreases-loop-k) (u : Bool) → s.args.known ≡ true → ltb s.args.squared (farthest s.args.b (others s)) ≡ u → cond u false true ≡ near s.args.known s.args.squared (farthest s.args.b (others s))
 decided s u k e = sym (ap₂ (λ (v w : Bool). cond v (cond w false true) true) k e)
 
-returns-2 : tie.Need-returns-2 invariant-loop decreases-loop
-returns-2 c =
-    let u : tie.After-apart-of invariant-loop decreases-loop = c.before in
+returns-then-squared-apart_of : tie.Need-returns-then-squared-apart_of invariant-loop-k decreases-loop-k
+returns-then-squared-apart_of c =
+    let u : tie.After-apart_of invariant-loop-k decreases-loop-k = c.before in
     let l = u.before.before.before.before in
     let s = l.before.before in
-    let next = others_next s.args.m (over s) s.requires.0.0 s.args.i l.loop.k s.requires.0.1 u.before.before.before.loop-test.true in
-    let far : s.args.squared < apart s.args.b (box_at (over s) (skip s.args.i l.loop.k)) = omega (arith, distance u, c.if2.true) in
-    decided s true (not-false _ l.before.if1.false) (sym l.loop.invariant.1 ∙ beyond_here s.args.b _ s.args.squared next far)
+    let next = others_next s.args.m (over s) s.requires.0.0 s.args.i l.loop-k.k s.requires.0.1 u.loop-k-test.true in
+    let far : s.args.squared < apart s.args.b (box_at (over s) (skip s.args.i l.loop-k.k)) = omega (arith, distance u, c.if-squared-apart_of.true) in
+    decided s true (not-false _ l.if-not-known.false) (sym l.loop-k.invariant.1 ∙ beyond_here s.args.b _ s.args.squared next far)
 
-add-k : tie.Need-overflow-add-k invariant-loop decreases-loop
-add-k c = omega arith
+overflow_add-k-in-loop-k : tie.Need-overflow_add-k-in-loop-k invariant-loop-k decreases-loop-k
+overflow_add-k-in-loop-k c = omega arith
 
-loop-less : tie.Need-loop-smaller invariant-loop decreases-loop
-loop-less c = omega arith
+loop-k-smaller : tie.Need-loop-k-smaller invariant-loop-k decreases-loop-k
+loop-k-smaller c = omega arith
 
-loop-again : tie.Need-loop-preserved invariant-loop decreases-loop
-loop-again c =
-    let u : tie.After-apart-of invariant-loop decreases-loop = c.before in
+loop-k-preserved : tie.Need-loop-k-preserved invariant-loop-k decreases-loop-k
+loop-k-preserved c =
+    let u : tie.After-apart_of invariant-loop-k decreases-loop-k = c.before in
     let l = u.before.before.before.before in
     let s = l.before.before in
-    let next = others_next s.args.m (over s) s.requires.0.0 s.args.i l.loop.k s.requires.0.1 u.before.before.before.loop-test.true in
-    let close : apart s.args.b (box_at (over s) (skip s.args.i l.loop.k)) ≤ s.args.squared = omega (arith, distance u, c.if2.false) in
-    (omega arith, beyond_more s.args.b _ s.args.squared next close ∙ l.loop.invariant.1)
+    let next = others_next s.args.m (over s) s.requires.0.0 s.args.i l.loop-k.k s.requires.0.1 u.loop-k-test.true in
+    let close : apart s.args.b (box_at (over s) (skip s.args.i l.loop-k.k)) ≤ s.args.squared = omega (arith, distance u, c.if-squared-apart_of.false) in
+    (omega arith, beyond_more s.args.b _ s.args.squared next close ∙ l.loop-k.invariant.1)
 
-returns-3 : tie.Need-returns-3 invariant-loop decreases-loop
-returns-3 c =
+returns : tie.Need-returns invariant-loop-k decreases-loop-k
+returns c =
     let l = c.before in
     let s = l.before.before in
-    decided s false (not-false _ l.before.if1.false) (sym l.loop.invariant.1 ∙ beyond_none s.args.b s.args.squared (others_done s.args.m (over s) s.requires.0.0 s.args.i l.loop.k s.requires.0.1 c.loop-test.false))
+    decided s false l.if-not-known.false (sym l.loop-k.invariant.1 ∙ beyond_none s.args.b s.args.squared (others_done s.args.m (over s) s.requires.0.0 s.args.i l.loop-k.k s.requires.0.1 c.loop-k-test.false))
 
 pub is_near_spec : {M : Type 1} → statement M
 is_near_spec =
     tie.close
-    (tie.spec
-    invariant-loop
-    decreases-loop
-    returns
-    loop-holds
-    add-loop
-    skipping-requires
-    box-in-requires
-    apart-of-requires
-    returns-2
-    add-k
-    loop-less
-    loop-again
-    returns-3)
+    (tie.spec invariant-loop-k decreases-loop-k returns-then-not-known loop-k-init overflow_add-k skipping-requires box_in-c-requires apart_of-requires returns-then-squared-apart_of overflow_add-k-in-loop-k loop-k-smaller loop-k-preserved returns)

@@ -2,31 +2,25 @@ use native.Mathlib.Omega.{arith}
 use Rattle.members.proofs.kit_at.Statement.{statement}
 use Rattle.members.proofs.kit_at.Tie as tie
 
-mul-result : tie.Need-overflow-mul-result
-mul-result c = omega (arith, c.before.requires.0 c.if1.true)
+offset_bounds-kit-e : tie.Need-offset_bounds-kit-e
+offset_bounds-kit-e c = omega (arith, c.requires.0 c.if-leaf.true)
 
-shared-slice-read-result : tie.Need-shared-slice-read-result
-shared-slice-read-result c = c.before.before.requires.0 c.before.if1.true
+bounds-kit-e : tie.Need-bounds-kit-e
+bounds-kit-e c = c.requires.0 c.if-leaf.true
+
+returns-then-leaf : tie.Need-returns-then-leaf
+returns-then-leaf c = λ x y. rw c.if-leaf.true
+
+offset_bounds-kits-e : tie.Need-offset_bounds-kits-e
+offset_bounds-kits-e c = omega (arith, c.requires.1 c.if-leaf.false)
+
+bounds-kits-e : tie.Need-bounds-kits-e
+bounds-kits-e c = c.requires.1 c.if-leaf.false
 
 returns : tie.Need-returns
-returns c = λ x y. rw c.before.if1.true
-
-mul-result-2 : tie.Need-overflow-mul-result-2
-mul-result-2 c = omega (arith, c.before.requires.1 c.if1.false)
-
-shared-slice-read-result-2 : tie.Need-shared-slice-read-result-2
-shared-slice-read-result-2 c = c.before.before.requires.1 c.before.if1.false
-
-returns-2 : tie.Need-returns-2
-returns-2 c = λ x y. rw c.before.if1.false
+returns c = λ x y. rw c.if-leaf.false
 
 pub kit_at_spec : {M : Type 1} → statement M
 kit_at_spec =
     tie.close
-    (tie.spec
-    mul-result
-    shared-slice-read-result
-    returns
-    mul-result-2
-    shared-slice-read-result-2
-    returns-2)
+    (tie.spec offset_bounds-kit-e bounds-kit-e returns-then-leaf offset_bounds-kits-e bounds-kits-e returns)

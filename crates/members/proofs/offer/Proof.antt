@@ -17,25 +17,25 @@ abbrev best : tie.Start → Best
 best s = best_at s.args.known.now s.args.squared.now s.args.places.now
 
 -- by what the test says
-chosen : (b : tie.After-is-better) (r : Bool) → b.is-better.result ≡ r →
+chosen : (b : tie.After-is_better) (r : Bool) → b.is_better.result ≡ r →
     let s = b.before.before.before in
     improved (group s) s.args.d (best s) ≡ cond r (best_at true s.args.d (group s)) (best s)
-chosen b r e = let s = b.before.before.before in b.is-better.ensures ∙ ap (λ (q : Bool). cond q (best_at true s.args.d (group s)) (best s)) e
+chosen b r e = let s = b.before.before.before in b.is_better.ensures ∙ ap (λ (q : Bool). cond q (best_at true s.args.d (group s)) (best s)) e
 
-is-better-requires : tie.Need-is-better-requires
-is-better-requires c κs = search rules
+is_better-requires : tie.Need-is_better-requires
+is_better-requires c κs = search rules
 
 store-requires : tie.Need-store-requires
 store-requires c κs = search rules
 
-returns : tie.Need-returns
-returns c =
-    let t : tie.Then1 = c.before.before in
+returns-then-is_better : tie.Need-returns-then-is_better
+returns-then-is_better c =
+    let t : tie.Then-is_better = c.before.before in
     let s = t.before.before.before.before in
-    ap (best_at true s.args.d) c.store.ensures ∙ sym (chosen t.before _ t.if1.true)
+    ap (best_at true s.args.d) c.store.ensures ∙ sym (chosen t.before _ t.if-is_better.true)
 
-returns-2 : tie.Need-returns-2
-returns-2 c = sym (chosen c.before _ c.if1.false)
+returns-else-is_better : tie.Need-returns-else-is_better
+returns-else-is_better c = sym (chosen c.before _ c.if-is_better.false)
 
 pub offer_spec : {M : Type 1} → statement M
-offer_spec = tie.close (tie.spec is-better-requires store-requires returns returns-2)
+offer_spec = tie.close (tie.spec is_better-requires store-requires returns-then-is_better returns-else-is_better)

@@ -4,18 +4,18 @@ use borrow.Author.Tests.{lt-ltb, le-ltb}
 use Rattle.members.proofs.skipping.Statement.{statement}
 use Rattle.members.proofs.skipping.Tie as tie
 
-add-result : tie.Need-overflow-add-result
-add-result c = omega arith
+overflow_add-result : tie.Need-overflow_add-result
+overflow_add-result c = omega arith
 
-returns : tie.Need-returns
-returns c =
-    let less : c.before.args.k < c.before.args.i = omega (arith, c.if1.true) in
-    rw (lt-ltb c.before.args.k c.before.args.i less)
+returns-then-k-i : tie.Need-returns-then-k-i
+returns-then-k-i c =
+    let less : c.args.k < c.args.i = omega (arith, c.if-k-i.true) in
+    rw (lt-ltb c.args.k c.args.i less)
 
-returns-2 : tie.Need-returns-2
-returns-2 c =
-    let not_less : c.before.args.i ≤ c.before.args.k = omega (arith, c.if1.false) in
-    rw (le-ltb c.before.args.k c.before.args.i not_less)
+returns-else-k-i : tie.Need-returns-else-k-i
+returns-else-k-i c =
+    let not_less : c.args.i ≤ c.args.k = omega (arith, c.if-k-i.false) in
+    rw (le-ltb c.args.k c.args.i not_less)
 
 pub skipping_spec : {M : Type 1} → statement M
-skipping_spec = tie.close (tie.spec add-result returns returns-2)
+skipping_spec = tie.close (tie.spec overflow_add-result returns-then-k-i returns-else-k-i)

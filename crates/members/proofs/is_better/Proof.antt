@@ -36,11 +36,11 @@ group s = padded (take s.args.m (set s.args.numbers.now s.args.i s.args.p))
 
 returns-then-not-known : tie.Need-returns-then-not-known
 unfolding improved
-returns-then-not-known c = rw (improved, not-true c.args.known c.if-not-known.true)
+returns-then-not-known c = rw (improved, c.if-not-known.true)
 
 -- past the first test a best is known
 known : (c : tie.Else-not-known) → true ≡ c.args.known
-known c = sym (not-false c.args.known c.if-not-known.false)
+known c = sym (c.if-not-known.false)
 
 returns-then-squared-least : tie.Need-returns-then-squared-least
 returns-then-squared-least c =

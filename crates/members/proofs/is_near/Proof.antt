@@ -45,7 +45,7 @@ distance : (u : tie.After-apart_of invariant-loop-k decreases-loop-k) →
 distance u = u.apart_of.ensures ∙ ap (apart u.args.b) (read u.before)
 
 returns-then-not-known : tie.Need-returns-then-not-known invariant-loop-k decreases-loop-k
-returns-then-not-known c = let s = c.before in sym (ap (λ (u : Bool). near u s.args.squared (farthest s.args.b (others s))) (not-true s.args.known c.if-not-known.true))
+returns-then-not-known c = let s = c.before in sym (ap (λ (u : Bool). near u s.args.squared (farthest s.args.b (others s))) c.if-not-known.true)
 
 loop-k-init : tie.Need-loop-k-init invariant-loop-k decreases-loop-k
 loop-k-init c = (omega arith, refl)
@@ -76,7 +76,7 @@ returns-then-squared-apart_of c =
     let s = l.before.before in
     let next = others_next s.args.m (over s) s.requires.0.0 s.args.i l.loop-k.k s.requires.0.1 u.loop-k-test.true in
     let far : s.args.squared < apart s.args.b (box_at (over s) (skip s.args.i l.loop-k.k)) = omega (arith, distance u, c.if-squared-apart_of.true) in
-    decided s true (not-false _ l.if-not-known.false) (sym l.loop-k.invariant.1 ∙ beyond_here s.args.b _ s.args.squared next far)
+    decided s true l.if-not-known.false (sym l.loop-k.invariant.1 ∙ beyond_here s.args.b _ s.args.squared next far)
 
 overflow_add-k-in-loop-k : tie.Need-overflow_add-k-in-loop-k invariant-loop-k decreases-loop-k
 overflow_add-k-in-loop-k c = omega arith

@@ -16,7 +16,7 @@ returns-then-i-lt8 c = c.wide8.ensures
 
 returns : tie.Need-returns
 returns c =
-    let l = c.args.t1 in
+    let l = c.args.kinds in
     let eight : length l ≡ 8 = search rules in
     sym (get_or-eq_default l 0 (omega (arith, c.if-i-lt8.false)))
 

@@ -18,9 +18,9 @@ best s = best_at s.args.known.now s.args.squared.now s.args.places.now
 
 -- by what the test says
 chosen : (b : tie.After-is_better) (r : Bool) → b.is_better.result ≡ r →
-    let s = b.before.before.before in
-    improved (group s) s.args.d (best s) ≡ cond r (best_at true s.args.d (group s)) (best s)
-chosen b r e = let s = b.before.before.before in b.is_better.ensures ∙ ap (λ (q : Bool). cond q (best_at true s.args.d (group s)) (best s)) e
+    let s = b.before in
+    improved (group s.before) s.args.d (best s.before) ≡ cond r (best_at true s.args.d (group s.before)) (best s.before)
+chosen b r e = let s = b.before in b.is_better.ensures ∙ ap (λ (q : Bool). cond q (best_at true s.args.d (group s.before)) (best s.before)) e
 
 is_better-requires : tie.Need-is_better-requires
 is_better-requires c κs = search rules
@@ -31,7 +31,7 @@ store-requires c κs = search rules
 returns-then-is_better : tie.Need-returns-then-is_better
 returns-then-is_better c =
     let t : tie.Then-is_better = c.before.before in
-    let s = t.before.before.before.before in
+    let s = t.before.before.before in
     ap (best_at true s.args.d) c.store.ensures ∙ sym (chosen t.before _ t.if-is_better.true)
 
 returns-else-is_better : tie.Need-returns-else-is_better

@@ -35,43 +35,43 @@ use Rattle.groups.proofs.take_groups.Statement.{statement}
 use Rattle.groups.proofs.take_groups.Tie as tie
 
 -- the loop knows the kind of the opened member only, so it keeps this for all wanted kinds of which that is one
-abbrev invariant-loop : tie.invariant-loop
-invariant-loop level start count entries x y kit x_lo x_hi y_lo y_hi kits nodes listed m allowance top numbers west east south north steps₀ known₀ squared₀ places₀ o rest₀ k₀ steps known squared places rest k =
+abbrev invariant-loop-k : tie.invariant-loop-k
+invariant-loop-k level start count entries x y kit x_lo x_hi y_lo y_hi kits nodes listed m allowance top numbers west east south north steps₀ known₀ squared₀ places₀ o rest₀ k₀ steps known squared places rest k =
     ((kinds : List ℕ) → Ready (table x y kit) (tree (shape nodes listed level start count entries) (sides x_lo x_hi y_lo y_hi) kits) kinds m (members_at (levels_at m top 1) numbers (sides west east south north)) o →
     Going (table x y kit) (tree (shape nodes listed level start count entries) (sides x_lo x_hi y_lo y_hi) kits) kinds allowance m (members_at (levels_at m top 1) numbers (sides west east south north)) o (stand steps₀ false (best_at known₀ squared₀ places₀)) steps (best_at known squared places) k)
     × (rest < 18446744073709551615 → rest ≡ spread (without top (take m (boxes_at (sides west east south north)))))
 
-abbrev decreases-loop : tie.decreases-loop
-decreases-loop level start count entries x y kit x_lo x_hi y_lo y_hi kits nodes listed m allowance top numbers west east south north steps₀ known₀ squared₀ places₀ o rest₀ k₀ steps known squared places rest k =
+abbrev decreases-loop-k : tie.decreases-loop-k
+decreases-loop-k level start count entries x y kit x_lo x_hi y_lo y_hi kits nodes listed m allowance top numbers west east south north steps₀ known₀ squared₀ places₀ o rest₀ k₀ steps known squared places rest k =
     o.many - k
 
 -- the places that the proof speaks of: the start, the opened candidate, the loop, an entry, and after each call
 abbrev Start : Type 0
-Start = tie.Start invariant-loop decreases-loop
+Start = tie.Start invariant-loop-k decreases-loop-k
 
 abbrev Open : Type 0
-Open = tie.After-open-at invariant-loop decreases-loop
+Open = tie.After-open_at-o invariant-loop-k decreases-loop-k
 
 abbrev Loop : Type 0
-Loop = tie.At-loop invariant-loop decreases-loop
+Loop = tie.At-loop-k invariant-loop-k decreases-loop-k
 
 abbrev Entry : Type 0
-Entry = tie.After-struct-known2 invariant-loop decreases-loop
+Entry = tie.After-struct_known-in-loop-k-1 invariant-loop-k decreases-loop-k
 
 abbrev Read : Type 0
-Read = tie.After-wide16 invariant-loop decreases-loop
+Read = tie.After-wide16-e invariant-loop-k decreases-loop-k
 
 abbrev Asked : Type 0
-Asked = tie.After-holds invariant-loop decreases-loop
+Asked = tie.After-holds invariant-loop-k decreases-loop-k
 
 abbrev Boxed : Type 0
-Boxed = tie.After-box-at invariant-loop decreases-loop
+Boxed = tie.After-box_at-b invariant-loop-k decreases-loop-k
 
 abbrev Measured : Type 0
-Measured = tie.After-row-of invariant-loop decreases-loop
+Measured = tie.After-row_of-row invariant-loop-k decreases-loop-k
 
 abbrev begin : Open → Start
-begin c = c.before.before.before.before.before.before.before.before
+begin c = c.before.before.before.before.before.before.before.before.before
 
 abbrev opened : Loop → Open
 opened c = c.before
@@ -119,136 +119,136 @@ few s = s.requires.1.0.0.most
 top_in : (s : Start) → s.args.top < s.args.m
 top_in s = lead_inside s.requires.0 s.args.kinds s.args.m (few s) s.args.top 1 s.args.numbers.now (ends s) s.requires.1.1.0
 
-mul-open-at : tie.Need-overflow-mul-open-at invariant-loop decreases-loop
-mul-open-at c = let s : Start = c.before.before.before.before.before.before in omega (arith, top_in s, few s)
+offset_bounds-numbers-top : tie.Need-offset_bounds-numbers-top invariant-loop-k decreases-loop-k
+offset_bounds-numbers-top c = let s : Start = c.before.before.before.before.before.before in omega (arith, top_in s, few s)
 
-element-copy-out-open-at : tie.Need-element-copy-out-open-at invariant-loop decreases-loop
-element-copy-out-open-at c = let s : Start = c.before.before.before.before.before.before in omega (arith, top_in s, few s)
+bounds-numbers-top : tie.Need-bounds-numbers-top invariant-loop-k decreases-loop-k
+bounds-numbers-top c = let s : Start = c.before.before.before.before.before.before.before in omega (arith, top_in s, few s)
 
-open-at-requires : tie.Need-open-at-requires invariant-loop decreases-loop
-open-at-requires c κs =
-    let s : Start = c.before.before.before.before.before.before.before in
+open_at-o-requires : tie.Need-open_at-o-requires invariant-loop-k decreases-loop-k
+open_at-o-requires c κs =
+    let s : Start = c.before.before.before.before.before.before.before.before in
     let there : get_or s.args.numbers.now s.args.top 0 < s.args.nodes = lead_there s.requires.0 s.args.kinds s.args.m (few s) s.args.top 1 s.args.numbers.now (ends s) s.requires.1.1.0 in
     let room : Room s.args.nodes s.args.listed (lengths (over_tree s)) = (meets s.requires.0).counted.room in
     (omega (arith, there, room.start), omega (arith, there, room.count))
 
 -- it is ready, for these kinds
 abbrev Can : Open → List ℕ → Type 0
-Can o kinds = let s = begin o in Ready (places s) (over_tree s) kinds s.args.m (cand s) o.open_at.result
+Can o kinds = let s = begin o in Ready (places s) (over_tree s) kinds s.args.m (cand s) o.open_at-o.result
 
 can : (o : Open) → Can o (wanted (begin o))
-can o = let s = begin o in ready s.pre.0 s.args.kinds s.args.m (few s) s.args.top 1 s.args.numbers.now (ends s) s.pre.1.1.0 o.open_at.result o.open_at.ensures
+can o = let s = begin o in ready s.requires.0 s.args.kinds s.args.m (few s) s.args.top 1 s.args.numbers.now (ends s) s.requires.1.1.0 o.open_at-o.result o.open_at-o.ensures
 
-top_so : (o : Open) → o.open_at.result.top ≡ (begin o).args.top
-top_so o = ap (λ (a : Opening). a.top) o.open_at.ensures
+top_so : (o : Open) → o.open_at-o.result.top ≡ (begin o).args.top
+top_so o = ap (λ (a : Opening). a.top) o.open_at-o.ensures
 
-leaf_so : (o : Open) → o.open_at.result.leaf ≡ true
-leaf_so o = ap (λ (a : Opening). a.leaf) o.open_at.ensures
+leaf_so : (o : Open) → o.open_at-o.result.leaf ≡ true
+leaf_so o = ap (λ (a : Opening). a.leaf) o.open_at-o.ensures
 
 -- what the loop keeps
 abbrev Goes : Open → ℕ → Best → ℕ → Type 0
 Goes o steps best k =
-    (kinds : List ℕ) → Can o kinds → let s = begin o in Going (places s) (over_tree s) kinds s.args.allowance s.args.m (cand s) o.open_at.result (first s) steps best k
+    (kinds : List ℕ) → Can o kinds → let s = begin o in Going (places s) (over_tree s) kinds s.args.allowance s.args.m (cand s) o.open_at-o.result (first s) steps best k
 
 abbrev best_at_lem : Loop → Best
-best_at_lem l = best_at l.loop.known l.loop.squared l.loop.places
+best_at_lem l = best_at l.loop-k.known l.loop-k.squared l.loop-k.places
 
-kept : (l : Loop) → Goes (opened l) l.loop.steps (best_at_lem l) l.loop.k
-kept l = l.loop.inv.0
+kept : (l : Loop) → Goes (opened l) l.loop-k.steps (best_at_lem l) l.loop-k.k
+kept l = l.loop-k.invariant.0
 
 -- the groups that come of it
-last : (o : Open) {kinds : List ℕ} → Can o kinds → let s = begin o in Last (over_tree s) (things_of (take s.args.m (cand s))) o.open_at.result.top
+last : (o : Open) {kinds : List ℕ} → Can o kinds → let s = begin o in Last (over_tree s) (things_of (take s.args.m (cand s))) o.open_at-o.result.top
 last o r =
     let s = begin o in
-    groups r (few s) 1 (levels_down s.pre.0 s.args.kinds s.args.m (few s) s.args.top 1 s.args.numbers.now (ends s) s.pre.1.1.0 o.open_at.result o.open_at.ensures) (omega (arith, top_so o, s.pre.1.0.1)) refl
+    groups r (few s) 1 (levels_down s.requires.0 s.args.kinds s.args.m (few s) s.args.top 1 s.args.numbers.now (ends s) s.requires.1.1.0 o.open_at-o.result o.open_at-o.ensures) (omega (arith, top_so o, s.requires.1.0.1)) refl
 
-loop-holds : tie.Need-loop-init invariant-loop decreases-loop
-loop-holds c = let s : Start = begin c in (λ kinds r. at_first s.pre.1.1.0.near s.pre.1.1.0.eight, λ h. absurd (omega (arith, h)))
+loop-k-init : tie.Need-loop-k-init invariant-loop-k decreases-loop-k
+loop-k-init c = let s : Start = begin c in (λ kinds r. at_first s.requires.1.1.0.near s.requires.1.1.0.eight, λ h. absurd (omega (arith, h)))
 
 -- ---- an entry, which is a place
 
 abbrev y : Entry → Thing
-y e = let o = opened (round e) in entry (over_tree (begin o)).shape o.open_at.result.node (round e).loop.k
+y e = let o = opened (round e) in entry (over_tree (begin o)).shape o.open_at-o.result.node (round e).loop-k.k
 
 abbrev number_read : Entry → ℕ
-number_read e = let o = opened (round e) in get_or (begin o).args.entries.now (o.open_at.result.first + (round e).loop.k) 0
+number_read e = let o = opened (round e) in get_or (begin o).args.entries.now (o.open_at-o.result.first + (round e).loop-k.k) 0
 
-add-p : tie.Need-overflow-add-p invariant-loop decreases-loop
-add-p c = let r = can (opened (round c)) in omega (arith, in_few r.passes r.opens (round c).loop.k c.before.if1.true)
+overflow_add-p : tie.Need-overflow_add-p invariant-loop-k decreases-loop-k
+overflow_add-p c = let r = can (opened (round c)) in omega (arith, in_few r.passes r.opens (round c).loop-k.k c.loop-k-test.true)
 
-mul-p : tie.Need-overflow-mul-p invariant-loop decreases-loop
-mul-p c = let r = can (opened (round c)) in omega (arith, in_few r.passes r.opens (round c).loop.k c.before.if1.true)
+offset_bounds-entries-o : tie.Need-offset_bounds-entries-o invariant-loop-k decreases-loop-k
+offset_bounds-entries-o c = let r = can (opened (round c)) in omega (arith, in_few r.passes r.opens (round c).loop-k.k c.loop-k-test.true)
 
-shared-slice-read-p : tie.Need-shared-slice-read-p invariant-loop decreases-loop
-shared-slice-read-p c =
+bounds-entries-o : tie.Need-bounds-entries-o invariant-loop-k decreases-loop-k
+bounds-entries-o c =
     let e : Entry = c.before in
     let r = can (opened (round e)) in
-    in_list r.passes r.opens (round e).loop.k e.before.if1.true
+    in_list r.passes r.opens (round e).loop-k.k e.loop-k-test.true
 
-wide16-requires : tie.Need-wide16-requires invariant-loop decreases-loop
-wide16-requires c κs = search rules
+wide16-e-requires : tie.Need-wide16-e-requires invariant-loop-k decreases-loop-k
+wide16-e-requires c κs = search rules
 
-add-k : tie.Need-overflow-add-k invariant-loop decreases-loop
-add-k c = search rules
+overflow_add-k : tie.Need-overflow_add-k invariant-loop-k decreases-loop-k
+overflow_add-k c = search rules
 
-is_thing : (c : Read) → place c.wide16.result ≡ y (at c)
+is_thing : (c : Read) → place c.wide16-e.result ≡ y (at c)
 is_thing c =
     let e = at c in
     let o = opened (round e) in
     let r = can o in
-    ap place c.wide16.ensures ∙ is_place r.passes r.opens (round e).loop.k e.before.if1.true (leaf_so o)
+    ap place c.wide16-e.ensures ∙ is_place r.passes r.opens (round e).loop-k.k e.loop-k-test.true (leaf_so o)
 
 -- where its columns are read
-read_at : (c : Read) → Reads (can (opened (round (at c)))).passes true c.wide16.result
+read_at : (c : Read) → Reads (can (opened (round (at c)))).passes true c.wide16-e.result
 read_at c =
     let e = at c in
     let o = opened (round e) in
     let r = can o in
-    subst (λ (n : ℕ). Reads r.passes true n) (sym c.wide16.ensures) (subst (λ (u : Bool). Reads r.passes u (number_read e)) (leaf_so o) (reads r.passes r.opens (round e).loop.k e.before.if1.true))
+    subst (λ (n : ℕ). Reads r.passes true n) (sym c.wide16-e.ensures) (subst (λ (u : Bool). Reads r.passes u (number_read e)) (leaf_so o) (reads r.passes r.opens (round e).loop-k.k e.loop-k-test.true))
 
-mul_holds : tie.Need-overflow-mul-holds invariant-loop decreases-loop
-mul_holds c = omega (arith, (read_at c).small)
+offset_bounds-kit-e : tie.Need-offset_bounds-kit-e invariant-loop-k decreases-loop-k
+offset_bounds-kit-e c = omega (arith, (read_at c).small)
 
-shared-slice-read-holds : tie.Need-shared-slice-read-init invariant-loop decreases-loop
-shared-slice-read-holds c = ((read_at c.before).place refl).1.1
+bounds-kit-e : tie.Need-bounds-kit-e invariant-loop-k decreases-loop-k
+bounds-kit-e c = ((read_at c.before).place refl).1.1
 
-holds-requires : tie.Need-holds-requires invariant-loop decreases-loop
-holds-requires c κs = let o = opened (round (at c.before)) in let s = begin o in kind_small s.args.kinds s.args.m (can o).opens s.pre.1.0.0
+holds-requires : tie.Need-holds-requires invariant-loop-k decreases-loop-k
+holds-requires c κs = let o = opened (round (at c.before)) in let s = begin o in kind_small s.args.kinds s.args.m (can o).opens s.requires.1.0.0
 
 -- does it hold the kind?
-held : (c : Asked) {kinds : List ℕ} → let o = opened (round (at (read c))) in let s = begin o in Can o kinds → c.holds.result ≡ holds (places s) (over_tree s) (get_or kinds o.open_at.result.top 0) (y (at (read c)))
+held : (c : Asked) {kinds : List ℕ} → let o = opened (round (at (read c))) in let s = begin o in Can o kinds → c.holds.result ≡ holds (places s) (over_tree s) (get_or kinds o.open_at-o.result.top 0) (y (at (read c)))
 held c r =
     let s = begin (opened (round (at (read c)))) in
     c.holds.ensures ∙ ap₂ (λ (x : Thing) (kind : ℕ). holds (places s) (over_tree s) kind x) (is_thing (read c)) r.opens.kind
 
-take-step-requires : tie.Need-take-step-requires invariant-loop decreases-loop
-take-step-requires c κs = tt
+take_step-requires : tie.Need-take_step-requires invariant-loop-k decreases-loop-k
+take_step-requires c κs = tt
 
 -- an end, at the member that was opened
-ended : (o : Open) (to : Stand Best) → let s = begin o in Led (places s) (over_tree s) (wanted s) s.args.allowance s.args.m (cand s) o.open_at.result.top (first s) to →
+ended : (o : Open) (to : Stand Best) → let s = begin o in Led (places s) (over_tree s) (wanted s) s.args.allowance s.args.m (cand s) o.open_at-o.result.top (first s) to →
     Led (places s) (over_tree s) (wanted s) s.args.allowance s.args.m (cand s) s.args.top (first s) to
 ended o to e = let s = begin o in subst (λ (i : ℕ). Led (places s) (over_tree s) (wanted s) s.args.allowance s.args.m (cand s) i (first s) to) (top_so o) e
 
-returns : tie.Need-returns invariant-loop decreases-loop
-returns c =
+returns-then-not-take_step : tie.Need-returns-then-not-take_step invariant-loop-k decreases-loop-k
+returns-then-not-take_step c =
     let a : Asked = c.before.before.before.before in
     let e = at (read a) in
     let l = round e in
     let r = can (opened l) in
-    ended (opened l) _ (spends r _ _ (l.loop.inv.0 _ r) e.before.if1.true (sym (held a r) ∙ c.before.before.before.if2.true) (c.before.take_step.ensures.none (not-true _ c.if3.true)))
+    ended (opened l) _ (spends r _ _ (l.loop-k.invariant.0 _ r) e.loop-k-test.true (sym (held a r) ∙ c.if-holds.true) (c.take_step.ensures.none c.if-not-take_step.true))
 
-box-at-requires : tie.Need-box-at-requires invariant-loop decreases-loop
-box-at-requires c κs =
+box_at-b-requires : tie.Need-box_at-b-requires invariant-loop-k decreases-loop-k
+box_at-b-requires c κs =
     let a : Asked = c.before.before.before.before in
     let h = (read_at (read a)).place refl in
     (h.0, (h.0, (h.1.0, h.1.0)))
 
 -- its box
-is_box : (c : Boxed) → let e = at (read (asked c)) in let s = begin (opened (round e)) in c.box_at_lem.result ≡ box_of (places s) (over_tree s).sides (y e)
-is_box c = let s = begin (opened (round (at (read (asked c))))) in c.box_at_lem.ensures ∙ ap (box_of (places s) (over_tree s).sides) (is_thing (read (asked c)))
+is_box : (c : Boxed) → let e = at (read (asked c)) in let s = begin (opened (round e)) in c.box_at-b.result ≡ box_of (places s) (over_tree s).sides (y e)
+is_box c = let s = begin (opened (round (at (read (asked c))))) in c.box_at-b.ensures ∙ ap (box_of (places s) (over_tree s).sides) (is_thing (read (asked c)))
 
-limit-of-requires : tie.Need-limit-of-requires invariant-loop decreases-loop
-limit-of-requires c κs = tt
+limit_of-limit-requires : tie.Need-limit_of-limit-requires invariant-loop-k decreases-loop-k
+limit_of-limit-requires c κs = tt
 
 -- the boxes of the candidate
 boxes_so : (s : Start) → boxes_of (take s.args.m (cand s)) ≡ take s.args.m (boxes_at (ends s))
@@ -257,170 +257,141 @@ boxes_so s = boxes_of_lem (levels_at s.args.m s.args.top 1) s.args.numbers.now (
 ranged_boxes : (o : Open) → let s = begin o in AllRanged (take s.args.m (boxes_at (ends s)))
 ranged_boxes o = let s = begin o in let r = can o in subst AllRanged (boxes_so s) (boxes_ranged r.passes (wanted s) s.args.m (cand s) r.long r.fair)
 
-row-of-requires : tie.Need-row-of-requires invariant-loop decreases-loop
-row-of-requires c κs =
+row_of-row-requires : tie.Need-row_of-row-requires invariant-loop-k decreases-loop-k
+row_of-row-requires c κs =
     let b : Boxed = c.before.before in
     let e = at (read (asked b)) in
     let o = opened (round e) in
     let s = begin o in
     let r = can o in
-    ((few s, top_in s), (ranged_boxes o, subst Ranged (sym (is_box b)) (ranged r.passes (y e) (real r.passes r.opens (round e).loop.k e.before.if1.true))))
+    ((few s, top_in s), (ranged_boxes o, subst Ranged (sym (is_box b)) (ranged r.passes (y e) (real r.passes r.opens (round e).loop-k.k e.loop-k-test.true))))
 
 abbrev entered : Measured → Entry
 entered c = at (read (asked (boxed c)))
 
 abbrev limit : Measured → ℕ
-limit c = c.before.limit-of.result
+limit c = c.limit_of-limit.result
 
 -- what the row says
 row_is : (c : Measured) →
     let o = opened (round (entered c)) in
     let s = begin o in
-    UpTo (limit c) (farthest (box_of (places s) (over_tree s).sides (y (entered c))) (without o.open_at.result.top (boxes_of (take s.args.m (cand s))))) c.row_of.result
+    UpTo (limit c) (farthest (box_of (places s) (over_tree s).sides (y (entered c))) (without o.open_at-o.result.top (boxes_of (take s.args.m (cand s))))) c.row_of-row.result
 row_is c =
     let o = opened (round (entered c)) in
     let s = begin o in
-    subst (λ (l : List Box). UpTo (limit c) (farthest (box_of (places s) (over_tree s).sides (y (entered c))) (without o.open_at.result.top l)) c.row_of.result) (sym (boxes_so s))
-    (subst (λ (i : ℕ). UpTo (limit c) (farthest (box_of (places s) (over_tree s).sides (y (entered c))) (without i (take s.args.m (boxes_at (ends s))))) c.row_of.result) (sym (top_so o))
-    (subst (λ (b : Box). UpTo (limit c) (farthest b (without s.args.top (take s.args.m (boxes_at (ends s))))) c.row_of.result) (is_box (boxed c))
-    c.row_of.ensures))
+    subst (λ (l : List Box). UpTo (limit c) (farthest (box_of (places s) (over_tree s).sides (y (entered c))) (without o.open_at-o.result.top l)) c.row_of-row.result) (sym (boxes_so s))
+    (subst (λ (i : ℕ). UpTo (limit c) (farthest (box_of (places s) (over_tree s).sides (y (entered c))) (without i (take s.args.m (boxes_at (ends s))))) c.row_of-row.result) (sym (top_so o))
+    (subst (λ (b : Box). UpTo (limit c) (farthest b (without s.args.top (take s.args.m (boxes_at (ends s))))) c.row_of-row.result) (is_box (boxed c))
+    c.row_of-row.ensures))
 
 -- the entry holds the kind, and a step was taken
-holding : (c : Measured) {kinds : List ℕ} → let o = opened (round (entered c)) in let s = begin o in Can o kinds → holds (places s) (over_tree s) (get_or kinds o.open_at.result.top 0) (y (entered c)) ≡ true
-holding c r = sym (held (asked (boxed c)) r) ∙ (boxed c).before.before.before.before.if2.true
+holding : (c : Measured) {kinds : List ℕ} → let o = opened (round (entered c)) in let s = begin o in Can o kinds → holds (places s) (over_tree s) (get_or kinds o.open_at-o.result.top 0) (y (entered c)) ≡ true
+holding c r = sym (held (asked (boxed c)) r) ∙ (boxed c).if-holds.true
 
 abbrev steps_now : Measured → ℕ
-steps_now c = (boxed c).before.before.take_step.new.1.0
+steps_now c = (boxed c).take_step.new.steps
 
-counted : (c : Measured) → let l = round (entered c) in (l.loop.steps < (begin (opened l)).args.allowance) × (steps_now c ≡ l.loop.steps + 1)
-counted c = (boxed c).before.before.take_step.ensures.some (not-false _ (boxed c).before.if3.false)
+counted : (c : Measured) → let l = round (entered c) in (l.loop-k.steps < (begin (opened l)).args.allowance) × (steps_now c ≡ l.loop-k.steps + 1)
+counted c = (boxed c).take_step.ensures.some (boxed c).if-not-take_step.false
 
-rest-of-requires : tie.Need-rest-of-requires invariant-loop decreases-loop
-rest-of-requires c κs =
+rest_of-rest-requires : tie.Need-rest_of-rest-requires invariant-loop-k decreases-loop-k
+rest_of-rest-requires c κs =
     let l = round (entered c.before) in
     let s = begin (opened l) in
-    ((few s, top_in s), (ranged_boxes (opened l), l.loop.inv.1))
+    ((few s, top_in s), (ranged_boxes (opened l), l.loop-k.invariant.1))
 
-larger-requires : tie.Need-larger-requires invariant-loop decreases-loop
+larger-requires : tie.Need-larger-requires invariant-loop-k decreases-loop-k
 larger-requires c κs = tt
 
-offer-requires : tie.Need-offer-requires invariant-loop decreases-loop
+offer-requires : tie.Need-offer-requires invariant-loop-k decreases-loop-k
 offer-requires c κs =
     let l = round (entered c.before.before.before.before.before.before) in
     let s = begin (opened l) in
-    ((few s, top_in s), (s.pre.1.1.1, (l.loop.inv.0 _ (can (opened l))).eight))
+    ((few s, top_in s), (s.requires.1.1.1, (l.loop-k.invariant.0 _ (can (opened l))).eight))
 
 -- one entry less is left
-fewer : (e : Entry) → let o = opened (round e) in o.open_at.result.many - ((round e).loop.k + 1) < o.open_at.result.many - (round e).loop.k
-fewer e = omega (arith, e.before.if1.true)
+fewer : (e : Entry) → let o = opened (round e) in o.open_at-o.result.many - ((round e).loop-k.k + 1) < o.open_at-o.result.many - (round e).loop-k.k
+fewer e = omega (arith, e.loop-k-test.true)
 
-loop-less : tie.Need-loop-smaller invariant-loop decreases-loop
-loop-less c = fewer (entered c.before.before.before.before.before.before.before)
+loop-k-smaller-then-row-limit : tie.Need-loop-k-smaller-then-row-limit invariant-loop-k decreases-loop-k
+loop-k-smaller-then-row-limit c = fewer (entered c.before.before.before.before.before.before.before)
 
 -- the candidate of the entry is a group: its numbers and its spread
 group_of_lem : (c : Measured) {kinds : List ℕ} → let o = opened (round (entered c)) in let s = begin o in Can o kinds →
-    take s.args.m (set s.args.numbers.now s.args.top (number_read (entered c))) ≡ map number (set (things_of (take s.args.m (cand s))) o.open_at.result.top (y (entered c)))
+    take s.args.m (set s.args.numbers.now s.args.top (number_read (entered c))) ≡ map number (set (things_of (take s.args.m (cand s))) o.open_at-o.result.top (y (entered c)))
 group_of_lem c r =
     let e = entered c in
     let o = opened (round e) in
     let s = begin o in
     ap (λ (i : ℕ). take s.args.m (set s.args.numbers.now i (number_read e))) (sym (top_so o))
-    ∙ next_numbers r (round e).loop.k e.before.if1.true s.args.numbers.now (numbers_of (levels_at s.args.m s.args.top 1) s.args.numbers.now (ends s) s.args.m s.pre.1.1.1)
+    ∙ next_numbers r (round e).loop-k.k e.loop-k-test.true s.args.numbers.now (numbers_of (levels_at s.args.m s.args.top 1) s.args.numbers.now (ends s) s.args.m s.requires.1.1.1)
 
-rest_so : (c : tie.After-rest-of invariant-loop decreases-loop) → let o = opened (round (entered c.before.before)) in let s = begin o in c.rest_of.result ≡ spread (without o.open_at.result.top (boxes_of (take s.args.m (cand s))))
+rest_so : (c : tie.After-rest_of-rest invariant-loop-k decreases-loop-k) → let o = opened (round (entered c.before.before)) in let s = begin o in c.rest_of-rest.result ≡ spread (without o.open_at-o.result.top (boxes_of (take s.args.m (cand s))))
 rest_so c =
     let o = opened (round (entered c.before.before)) in
     let s = begin o in
-    c.rest_of.ensures ∙ ap₂ (λ (i : ℕ) (b : List Box). spread (without i b)) (sym (top_so o)) (sym (boxes_so s))
+    c.rest_of-rest.ensures ∙ ap₂ (λ (i : ℕ) (b : List Box). spread (without i b)) (sym (top_so o)) (sym (boxes_so s))
 
-wide : (c : tie.After-larger invariant-loop decreases-loop) {kinds : List ℕ} → let d : Measured = c.before.before.before in let l = round (entered d) in (r : Can (opened l) kinds) → c.larger.result ≡ spread (boxes_of (take (begin (opened l)).args.m (next r l.loop.k (entered d).before.if1.true)))
+wide : (c : tie.After-larger invariant-loop-k decreases-loop-k) {kinds : List ℕ} → let d : Measured = c.before.before.before in let l = round (entered d) in (r : Can (opened l) kinds) → c.larger.result ≡ spread (boxes_of (take (begin (opened l)).args.m (next r l.loop-k.k (entered d).loop-k-test.true)))
 wide c r =
     let d : Measured = c.before.before.before in
     let e = entered d in
-    c.larger.ensures ∙ ap₂ max (rest_so c.before) ((row_is d).near (omega (arith, c.before.before.if4.true))) ∙ sym (next_made r (round e).loop.k e.before.if1.true)
+    c.larger.ensures ∙ ap₂ max (rest_so c.before) ((row_is d).near (omega (arith, c.if-row-limit.true))) ∙ sym (next_made r (round e).loop-k.k e.loop-k-test.true)
 
 -- it is learnt
-learnt : (c : tie.After-offer invariant-loop decreases-loop) →
+learnt : (c : tie.After-offer invariant-loop-k decreases-loop-k) →
     let d : Measured = c.before.before.before.before.before.before.before in
     let l = round (entered d) in
-    let last = c.offer.new.1.1.1.1.1 in
-    Goes (opened l) (steps_now d) (best_at last.0 last.1.0 last.1.1.0) (l.loop.k + 1)
+    let last = c.offer.new in
+    Goes (opened l) (steps_now d) (best_at last.known last.squared last.places) (l.loop-k.k + 1)
 learnt c kinds r =
     let d : Measured = c.before.before.before.before.before.before.before in
     let e = entered d in
     let l = round e in
     let s = begin (opened l) in
-    learns r _ _ (kept l kinds r) e.before.if1.true (holding d r) (counted d) (up_near (best_at_lem l) d.before.limit-of.ensures (row_is d) (omega (arith, c.before.before.before.before.before.before.if4.true))) (last (opened l) r) (group_of_lem d r)
-    (group_long s.args.m s.args.numbers.now s.args.top (number_read e) s.pre.1.1.1 (few s))
+    learns r _ _ (kept l kinds r) e.loop-k-test.true (holding d r) (counted d) (up_near (best_at_lem l) d.limit_of-limit.ensures (row_is d) (omega (arith, c.if-row-limit.true))) (last (opened l) r) (group_of_lem d r)
+    (group_long s.args.m s.args.numbers.now s.args.top (number_read e) s.requires.1.1.1 (few s))
     (wide c.before.before.before.before r) c.offer.ensures
 
-loop-again : tie.Need-loop-preserved invariant-loop decreases-loop
-loop-again c = (learnt c, λ _. c.before.before.before.before.before.rest_of.ensures)
+loop-k-preserved-then-row-limit : tie.Need-loop-k-preserved-then-row-limit invariant-loop-k decreases-loop-k
+loop-k-preserved-then-row-limit c = (learnt c, λ _. c.rest_of-rest.ensures)
 
-loop-less-2 : tie.Need-loop-smaller-2 invariant-loop decreases-loop
-loop-less-2 c = fewer (entered c.before)
+loop-k-smaller-else-row-limit : tie.Need-loop-k-smaller-else-row-limit invariant-loop-k decreases-loop-k
+loop-k-smaller-else-row-limit c = fewer (entered c.before)
 
-dropped : (c : tie.Else4 invariant-loop decreases-loop) → let l = round (entered c.before) in Goes (opened l) (steps_now c.before) (best_at_lem l) (l.loop.k + 1)
+dropped : (c : tie.Else-row-limit invariant-loop-k decreases-loop-k) → let l = round (entered c.before) in Goes (opened l) (steps_now c.before) (best_at_lem l) (l.loop-k.k + 1)
 dropped c kinds r =
     let d : Measured = c.before in
     let e = entered d in
     let l = round e in
-    let f : d.row_of.result < 18446744073709551616 = omega (arith, d.row_of.type_inv) in
-    let h : limit d < d.row_of.result = omega (arith, c.if4.false) in
-    drops r _ _ (kept l kinds r) e.before.if1.true (holding d r) (counted d) (up_known (best_at_lem l) d.before.limit-of.ensures (row_is d) f h) (up_far (best_at_lem l) d.before.limit-of.ensures (row_is d) f h)
+    let f : d.row_of-row.result < 18446744073709551616 = omega (arith, d.row_of-row.type_inv) in
+    let h : limit d < d.row_of-row.result = omega (arith, c.if-row-limit.false) in
+    drops r _ _ (kept l kinds r) e.loop-k-test.true (holding d r) (counted d) (up_known (best_at_lem l) d.limit_of-limit.ensures (row_is d) f h) (up_far (best_at_lem l) d.limit_of-limit.ensures (row_is d) f h)
 
-loop-again-2 : tie.Need-loop-preserved-2 invariant-loop decreases-loop
-loop-again-2 c = (dropped c, (round (entered c.before)).loop.inv.1)
+loop-k-preserved-else-row-limit : tie.Need-loop-k-preserved-else-row-limit invariant-loop-k decreases-loop-k
+loop-k-preserved-else-row-limit c = (dropped c, (round (entered c.before)).loop-k.invariant.1)
 
-loop-less-3 : tie.Need-loop-smaller-3 invariant-loop decreases-loop
-loop-less-3 c = fewer (at (read c.before))
+loop-k-smaller : tie.Need-loop-k-smaller invariant-loop-k decreases-loop-k
+loop-k-smaller c = fewer (at (read c.before))
 
-skipped : (c : tie.Else2 invariant-loop decreases-loop) → let l = round (at (read c.before)) in Goes (opened l) l.loop.steps (best_at_lem l) (l.loop.k + 1)
+skipped : (c : tie.Else-holds invariant-loop-k decreases-loop-k) → let l = round (at (read c.before)) in Goes (opened l) l.loop-k.steps (best_at_lem l) (l.loop-k.k + 1)
 skipped c kinds r =
     let a : Asked = c.before in
     let e = at (read a) in
     let l = round e in
-    skips r _ _ (kept l kinds r) e.before.if1.true (sym (held a r) ∙ c.if2.false)
+    skips r _ _ (kept l kinds r) e.loop-k-test.true (sym (held a r) ∙ c.if-holds.false)
 
-loop-again-3 : tie.Need-loop-preserved-3 invariant-loop decreases-loop
-loop-again-3 c = (skipped c, (round (at (read c.before))).loop.inv.1)
+loop-k-preserved : tie.Need-loop-k-preserved invariant-loop-k decreases-loop-k
+loop-k-preserved c = (skipped c, (round (at (read c.before))).loop-k.invariant.1)
 
-returns-2 : tie.Need-returns-2 invariant-loop decreases-loop
-returns-2 c =
+returns : tie.Need-returns invariant-loop-k decreases-loop-k
+returns c =
     let l : Loop = c.before.before in
     let r = can (opened l) in
-    ended (opened l) _ (over r _ _ (l.loop.invariant.0 _ r) c.if1.false)
+    ended (opened l) _ (over r _ _ (l.loop-k.invariant.0 _ r) c.loop-k-test.false)
 
 pub take_groups_spec : {M : Type 1} → statement M
 take_groups_spec =
     tie.close
-    (tie.spec
-    invariant-loop
-    decreases-loop
-    mul-open-at
-    element-copy-out-open-at
-    open-at-requires
-    loop-holds
-    add-p
-    mul-p
-    shared-slice-read-p
-    wide16-requires
-    add-k
-    mul_holds
-    shared-slice-read-holds
-    holds-requires
-    take-step-requires
-    returns
-    box-at-requires
-    limit-of-requires
-    row-of-requires
-    rest-of-requires
-    larger-requires
-    offer-requires
-    loop-less
-    loop-again
-    loop-less-2
-    loop-again-2
-    loop-less-3
-    loop-again-3
-    returns-2)
+    (tie.spec invariant-loop-k decreases-loop-k offset_bounds-numbers-top bounds-numbers-top open_at-o-requires loop-k-init overflow_add-p offset_bounds-entries-o bounds-entries-o wide16-e-requires overflow_add-k offset_bounds-kit-e bounds-kit-e holds-requires take_step-requires returns-then-not-take_step box_at-b-requires limit_of-limit-requires row_of-row-requires rest_of-rest-requires larger-requires offer-requires loop-k-smaller-then-row-limit loop-k-preserved-then-row-limit loop-k-smaller-else-row-limit loop-k-preserved-else-row-limit loop-k-smaller loop-k-preserved returns)

@@ -241,16 +241,16 @@ module _ (t : ℕ) where
   names_so d = d.put16.ensures
 
   west_so : (d : Made) → let s = begin d in (ends d).x_lo ≡ set s.args.west s.args.at s.args.w
-  west_so d = let s = begin d in d.put32.ensures ∙ ap (set s.args.west s.args.at) (to_z-of_z s.ranges.nodes.fits.w)
+  west_so d = let s = begin d in d.put32.ensures ∙ ap (set s.args.west s.args.at) (to_z-of_z s.ranges.w)
 
   east_so : (d : Made) → let s = begin d in (ends d).x_hi ≡ set s.args.east s.args.at s.args.e
-  east_so d = let s = begin d in d.put32-2.ensures ∙ ap (set s.args.east s.args.at) (to_z-of_z s.ranges.nodes.fits.e)
+  east_so d = let s = begin d in d.put32-2.ensures ∙ ap (set s.args.east s.args.at) (to_z-of_z s.ranges.e)
 
   south_so : (d : Made) → let s = begin d in (ends d).y_lo ≡ set s.args.south s.args.at s.args.s
-  south_so d = let s = begin d in d.put32-3.ensures ∙ ap (set s.args.south s.args.at) (to_z-of_z s.ranges.nodes.fits.s)
+  south_so d = let s = begin d in d.put32-3.ensures ∙ ap (set s.args.south s.args.at) (to_z-of_z s.ranges.s)
 
   north_so : (d : Made) → let s = begin d in (ends d).y_hi ≡ set s.args.north s.args.at s.args.n
-  north_so d = let s = begin d in d.put32-4.ensures ∙ ap (set s.args.north s.args.at) (to_z-of_z s.ranges.nodes.fits.n)
+  north_so d = let s = begin d in d.put32-4.ensures ∙ ap (set s.args.north s.args.at) (to_z-of_z s.ranges.n)
 
   cand_so : (d : Made) → called (begin d) ≡ cand d
   cand_so d =
@@ -445,7 +445,7 @@ module _ (t : ℕ) where
       let a : Asked = c.before.before.before.before in
       let l = round (at a) in
       let o = opened l in
-      ended o _ (spends (ready o) _ _ l.loop-k.invariant.0 (at a).loop-k-test.true (sym (held a) ∙ c.if-holds_at.true) (c.take_step.ensures.none (not-true _ c.if-not-take_step.true)))
+      ended o _ (spends (ready o) _ _ l.loop-k.invariant.0 (at a).loop-k-test.true (sym (held a) ∙ c.if-holds_at.true) (c.take_step.ensures.none c.if-not-take_step.true))
 
   offset_bounds-entries-here : lts.Need-offset_bounds-entries-here (claims t) (descend_at t) descend.Post invariant-loop-k decreases-loop-k
   offset_bounds-entries-here c =

@@ -324,7 +324,7 @@ module _ (t : ℕ) where
       let last = high_last s.args.m s.args.top s.args.high (inside d) (high_so d) (sym shut.next_high-lower.ensures ∙ shut.if-lower-eq0.true) in (
         s.requires.1.1.0,
         (
-          (s.requires.1.1.1.0, last.steps),
+          (s.requires.1.1.1.0, last.0),
           (
             subst (λ (v : ℕ). Opened (places s) (over_tree s) (wanted s) s.args.m (members_at (levels_at s.args.m s.args.top v) (names d) (ends d)) s.args.top (best_of s)) last.1 (open_so d),
             (eight d).number,

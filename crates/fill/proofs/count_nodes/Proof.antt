@@ -6,43 +6,34 @@ use Rattle.levels.proofs.LevelLaws.{Counting, counting_first, counting_more, cou
 use Rattle.fill.proofs.count_nodes.Statement.{statement}
 use Rattle.fill.proofs.count_nodes.Tie as tie
 
-abbrev invariant-loop : tie.invariant-loop
-invariant-loop n size₀ nodes₀ size nodes = Counting n size nodes
+abbrev invariant-loop-size : tie.invariant-loop-size
+invariant-loop-size n size₀ nodes₀ size nodes = Counting n size nodes
 
-abbrev decreases-loop : tie.decreases-loop
-decreases-loop n size₀ nodes₀ size nodes = size
+abbrev decreases-loop-size : tie.decreases-loop-size
+decreases-loop-size n size₀ nodes₀ size nodes = size
 
-add-size : tie.Need-overflow-add-size invariant-loop decreases-loop
-add-size c = search rules
+overflow_add-size : tie.Need-overflow_add-size invariant-loop-size decreases-loop-size
+overflow_add-size c = search rules
 
-loop-holds : tie.Need-loop-init invariant-loop decreases-loop
-loop-holds c = counting_first c.args.n c.requires
+loop-size-init : tie.Need-loop-size-init invariant-loop-size decreases-loop-size
+loop-size-init c = counting_first c.args.n c.requires
 
-add-size-2 : tie.Need-overflow-add-size-2 invariant-loop decreases-loop
-add-size-2 c = let s = c.before.before in let k = c.before.loop.invariant in omega (arith, k.size_is, size_few s.args.n s.requires k.level k.low k.high)
+overflow_add-size-in-loop-size : tie.Need-overflow_add-size-in-loop-size invariant-loop-size decreases-loop-size
+overflow_add-size-in-loop-size c = let s = c.before.before in let k = c.loop-size.invariant in omega (arith, k.size_is, size_few s.args.n s.requires k.level k.low k.high)
 
-add-nodes : tie.Need-overflow-add-nodes invariant-loop decreases-loop
-add-nodes c = let s = c.before.before in let k = counting_more s.args.n s.requires _ _ c.before.loop.invariant c.loop-test.true in omega (arith, nodes_few s.args.n s.requires, k.count_is)
+overflow_add-nodes : tie.Need-overflow_add-nodes invariant-loop-size decreases-loop-size
+overflow_add-nodes c = let s = c.before.before in let k = counting_more s.args.n s.requires _ _ c.loop-size.invariant c.loop-size-test.true in omega (arith, nodes_few s.args.n s.requires, k.count_is)
 
-loop-less : tie.Need-loop-smaller invariant-loop decreases-loop
-loop-less c = omega (arith, sixteenth c.before.loop.size)
+loop-size-smaller : tie.Need-loop-size-smaller invariant-loop-size decreases-loop-size
+loop-size-smaller c = omega (arith, sixteenth c.loop-size.size)
 
-loop-again : tie.Need-loop-preserved invariant-loop decreases-loop
-loop-again c = let s = c.before.before in counting_more s.args.n s.requires _ _ c.before.loop.invariant c.loop-test.true
+loop-size-preserved : tie.Need-loop-size-preserved invariant-loop-size decreases-loop-size
+loop-size-preserved c = let s = c.before.before in counting_more s.args.n s.requires _ _ c.loop-size.invariant c.loop-size-test.true
 
-returns : tie.Need-returns invariant-loop decreases-loop
-returns c = let s = c.before.before in counting_last s.args.n s.requires _ _ c.before.loop.invariant (omega arith)
+returns : tie.Need-returns invariant-loop-size decreases-loop-size
+returns c = let s = c.before.before in counting_last s.args.n s.requires _ _ c.loop-size.invariant (omega arith)
 
 pub count_nodes_spec : {M : Type 1} → statement M
 count_nodes_spec =
     tie.close
-    (tie.spec
-    invariant-loop
-    decreases-loop
-    add-size
-    loop-holds
-    add-size-2
-    add-nodes
-    loop-less
-    loop-again
-    returns)
+    (tie.spec invariant-loop-size decreases-loop-size overflow_add-size loop-size-init overflow_add-size-in-loop-size overflow_add-nodes loop-size-smaller loop-size-preserved returns)

@@ -21,15 +21,15 @@ use Rattle.fill.proofs.ValueLaws.{Read, leaf_run, node_run, run_due, Valued, val
 use Rattle.fill.proofs.fill_values.Statement.{statement}
 use Rattle.fill.proofs.fill_values.Tie as tie
 
-abbrev invariant-loop : tie.invariant-loop
-invariant-loop nodes x y kit level start count entries x-lo₀ x-hi₀ y-lo₀ y-hi₀ kits₀ m₀ x_lo x_hi y_lo y_hi kits m =
+abbrev invariant-loop-m : tie.invariant-loop-m
+invariant-loop-m nodes x y kit level start count entries x-lo₀ x-hi₀ y-lo₀ y-hi₀ kits₀ m₀ x_lo x_hi y_lo y_hi kits m =
     Valued (table.table x y kit) nodes (sides x-lo₀ x-hi₀ y-lo₀ y-hi₀) (sides x_lo x_hi y_lo y_hi) kits₀ kits m
 
-abbrev decreases-loop : tie.decreases-loop
-decreases-loop nodes x y kit level start count entries x-lo₀ x-hi₀ y-lo₀ y-hi₀ kits₀ m₀ x_lo x_hi y_lo y_hi kits m = m
+abbrev decreases-loop-m : tie.decreases-loop-m
+decreases-loop-m nodes x y kit level start count entries x-lo₀ x-hi₀ y-lo₀ y-hi₀ kits₀ m₀ x_lo x_hi y_lo y_hi kits m = m
 
 abbrev Start : Type 0
-Start = tie.Start invariant-loop decreases-loop
+Start = tie.Start invariant-loop-m decreases-loop-m
 
 abbrev table_at : Start → Table
 table_at s = table.table s.args.x.now s.args.y.now s.args.kit.now
@@ -37,57 +37,57 @@ table_at s = table.table s.args.x.now s.args.y.now s.args.kit.now
 abbrev shape_at : Start → Shape
 shape_at s = shape 0 0 s.args.level.now s.args.start.now s.args.count.now s.args.entries.now
 
-abbrev begin : tie.In-loop invariant-loop decreases-loop → Start
+abbrev begin : tie.In-loop-m invariant-loop-m decreases-loop-m → Start
 begin c = c.before.before.before.before.before.before.before.before
 
-abbrev sides_at : tie.In-loop invariant-loop decreases-loop → Sides
-sides_at c = let l = c.before.loop in sides l.x_lo l.x_hi l.y_lo l.y_hi
+abbrev sides_at : tie.In-loop-m invariant-loop-m decreases-loop-m → Sides
+sides_at c = let l = c.loop-m in sides l.x_lo l.x_hi l.y_lo l.y_hi
 
 -- the node to be filled
-abbrev at : tie.In-loop invariant-loop decreases-loop → ℕ
-at c = c.before.loop.m - 1
+abbrev at : tie.In-loop-m invariant-loop-m decreases-loop-m → ℕ
+at c = c.loop-m.m - 1
 
-is_node : (c : tie.In-loop invariant-loop decreases-loop) → let n = nodes (length (begin c).args.x.now) in (at c < n) × (n ≤ 273)
-is_node c = let s = begin c in (omega (arith, s.pre.1.0.0, c.before.loop.invariant.within), nodes_few (length s.args.x.now) s.pre.0.few)
+is_node : (c : tie.In-loop-m invariant-loop-m decreases-loop-m) → let n = nodes (length (begin c).args.x.now) in (at c < n) × (n ≤ 273)
+is_node c = let s = begin c in (omega (arith, s.requires.1.0.0, c.loop-m.invariant.within), nodes_few (length s.args.x.now) s.requires.0.few)
 
-loop-holds : tie.Need-loop-init invariant-loop decreases-loop
-loop-holds c =
-    let p = c.before.before.before.before.before.before.requires.1.1 in
+loop-m-init : tie.Need-loop-m-init invariant-loop-m decreases-loop-m
+loop-m-init c =
+    let p = c.requires.1.1 in
     record { within = omega arith; x_lo = fill_none p.0; x_hi = fill_none p.1.0; y_lo = fill_none p.1.1.0; y_hi = fill_none p.1.1.1.0; words = fill_none p.1.1.1.1 }
 
-sub-m : tie.Need-overflow-sub-m invariant-loop decreases-loop
-sub-m c = search rules
+overflow_sub-m : tie.Need-overflow_sub-m invariant-loop-m decreases-loop-m
+overflow_sub-m c = search rules
 
-shared-slice-read-leaf : tie.Need-shared-slice-read-leaf invariant-loop decreases-loop
-shared-slice-read-leaf c = omega (arith, is_node c.before, (begin c.before).requires.0.level.room)
+bounds-level-m : tie.Need-bounds-level-m invariant-loop-m decreases-loop-m
+bounds-level-m c = omega (arith, is_node c.before, (begin c.before).requires.0.level.room)
 
-mul-wide16 : tie.Need-overflow-mul-wide16 invariant-loop decreases-loop
-mul-wide16 c = omega (arith, is_node c.before)
+offset_bounds-start-m : tie.Need-offset_bounds-start-m invariant-loop-m decreases-loop-m
+offset_bounds-start-m c = omega (arith, is_node c.before)
 
-shared-slice-read-wide16 : tie.Need-shared-slice-read-wide16 invariant-loop decreases-loop
-shared-slice-read-wide16 c = let d = c.before.before in omega (arith, is_node d, (begin d).requires.0.start.room)
+bounds-start-m : tie.Need-bounds-start-m invariant-loop-m decreases-loop-m
+bounds-start-m c = let d = c.before.before in omega (arith, is_node d, (begin d).requires.0.start.room)
 
-wide16-requires : tie.Need-wide16-requires invariant-loop decreases-loop
-wide16-requires c κs = tt
+wide16-from-requires : tie.Need-wide16-from-requires invariant-loop-m decreases-loop-m
+wide16-from-requires c κs = tt
 
-shared-slice-read-wide8 : tie.Need-shared-slice-read-wide8 invariant-loop decreases-loop
-shared-slice-read-wide8 c = let d = c.before.before.before.before in omega (arith, is_node d, (begin d).requires.0.count.room)
+bounds-count-m : tie.Need-bounds-count-m invariant-loop-m decreases-loop-m
+bounds-count-m c = let d = c.before.before.before.before in omega (arith, is_node d, (begin d).requires.0.count.room)
 
-wide8-requires : tie.Need-wide8-requires invariant-loop decreases-loop
-wide8-requires c κs = tt
+wide8-many-requires : tie.Need-wide8-many-requires invariant-loop-m decreases-loop-m
+wide8-many-requires c κs = tt
 
-abbrev within : tie.After-wide8 invariant-loop decreases-loop → tie.In-loop invariant-loop decreases-loop
+abbrev within : tie.After-wide8-many invariant-loop-m decreases-loop-m → tie.In-loop-m invariant-loop-m decreases-loop-m
 within c = c.before.before.before.before.before
 
 -- its run
-read : (c : tie.After-wide8 invariant-loop decreases-loop) → let d = within c in Read (table_at (begin d)) (shape_at (begin d)) (at d) c.before.before.wide16.result c.wide8.result
-read c = record { laid = (begin (within c)).requires.0; known = (is_node (within c)).0; start = c.before.before.wide16.ensures; count = c.wide8.ensures }
+read : (c : tie.After-wide8-many invariant-loop-m decreases-loop-m) → let d = within c in Read (table_at (begin d)) (shape_at (begin d)) (at d) c.wide16-from.result c.wide8-many.result
+read c = record { laid = (begin (within c)).requires.0; known = (is_node (within c)).0; start = c.wide16-from.ensures; count = c.wide8-many.ensures }
 
-run-box-requires : tie.Need-run-box-requires invariant-loop decreases-loop
-run-box-requires c κs =
-    let w = c.before.before.before.before in
+run_box-b-requires : tie.Need-run_box-b-requires invariant-loop-m decreases-loop-m
+run_box-b-requires c κs =
+    let w = c in
     let p = (begin (within w)).requires.1.0 in
-    let v = (within w).before.loop.invariant in
+    let v = (within w).loop-m.invariant in
     let leaf = leaf_run (read w) in
     let node = node_run (read w) in (
       λ e. (leaf e, wider (omega (arith, p.1.y)) (leaf e)),
@@ -97,124 +97,94 @@ run-box-requires c κs =
       ),
     )
 
-abbrev boxed : tie.After-run-box invariant-loop decreases-loop → tie.After-wide8 invariant-loop decreases-loop
-boxed c = c.before.before.before.before.before
+abbrev boxed : tie.After-run_box-b invariant-loop-m decreases-loop-m → tie.After-wide8-many invariant-loop-m decreases-loop-m
+boxed c = c.before
 
-run-kit-requires : tie.Need-run-kit-requires invariant-loop decreases-loop
-run-kit-requires c κs =
-    let w = boxed c.before in
+run_kit-w-requires : tie.Need-run_kit-w-requires invariant-loop-m decreases-loop-m
+run_kit-w-requires c κs =
+    let w = boxed c in
     let p = (begin (within w)).requires.1.0 in
-    let v = (within w).before.loop.inv in
+    let v = (within w).loop-m.invariant in
     (λ e. wider (omega (arith, p.1.kit)) (leaf_run (read w) e), λ e. wider (omega (arith, p.0, v.words)) (node_run (read w) e))
 
-abbrev kitted : tie.After-struct-told4 invariant-loop decreases-loop → tie.After-run-kit invariant-loop decreases-loop
+abbrev kitted : tie.After-struct_told-in-loop-m-3-1 invariant-loop-m decreases-loop-m → tie.After-run_kit-w invariant-loop-m decreases-loop-m
 kitted c = c.before.before.before.before.before.before
 
-abbrev inside : tie.After-struct-told4 invariant-loop decreases-loop → tie.In-loop invariant-loop decreases-loop
-inside c = within (boxed (kitted c).before.before)
+abbrev inside : tie.After-struct_told-in-loop-m-3-1 invariant-loop-m decreases-loop-m → tie.In-loop-m invariant-loop-m decreases-loop-m
+inside c = within (boxed (kitted c).before)
 
-mul-west : tie.Need-overflow-mul-west invariant-loop decreases-loop
-mul-west c = omega (arith, is_node (inside c))
+offset_bounds-x_lo-m : tie.Need-offset_bounds-x_lo-m invariant-loop-m decreases-loop-m
+offset_bounds-x_lo-m c = omega (arith, is_node (inside c))
 
-slice-set-from-west : tie.Need-slice-set-from-west invariant-loop decreases-loop
-slice-set-from-west c = let v = (inside c).before.loop.invariant in omega (arith, (inside c).loop-test.true, v.within, v.x_lo)
+bounds-x_lo-m : tie.Need-bounds-x_lo-m invariant-loop-m decreases-loop-m
+bounds-x_lo-m c = let v = (inside c).loop-m.invariant in omega (arith, (inside c).loop-m-test.true, v.within, v.x_lo)
 
-mul-east : tie.Need-overflow-mul-east invariant-loop decreases-loop
-mul-east c = omega (arith, is_node (inside c))
+offset_bounds-x_hi-m : tie.Need-offset_bounds-x_hi-m invariant-loop-m decreases-loop-m
+offset_bounds-x_hi-m c = omega (arith, is_node (inside c))
 
-slice-set-from-east : tie.Need-slice-set-from-east invariant-loop decreases-loop
-slice-set-from-east c = let v = (inside c).before.loop.invariant in omega (arith, (inside c).loop-test.true, v.within, v.x_hi)
+bounds-x_hi-m : tie.Need-bounds-x_hi-m invariant-loop-m decreases-loop-m
+bounds-x_hi-m c = let v = (inside c).loop-m.invariant in omega (arith, (inside c).loop-m-test.true, v.within, v.x_hi)
 
-mul-south : tie.Need-overflow-mul-south invariant-loop decreases-loop
-mul-south c = omega (arith, is_node (inside c))
+offset_bounds-y_lo-m : tie.Need-offset_bounds-y_lo-m invariant-loop-m decreases-loop-m
+offset_bounds-y_lo-m c = omega (arith, is_node (inside c))
 
-slice-set-from-south : tie.Need-slice-set-from-south invariant-loop decreases-loop
-slice-set-from-south c = let v = (inside c).before.loop.invariant in omega (arith, (inside c).loop-test.true, v.within, v.y_lo)
+bounds-y_lo-m : tie.Need-bounds-y_lo-m invariant-loop-m decreases-loop-m
+bounds-y_lo-m c = let v = (inside c).loop-m.invariant in omega (arith, (inside c).loop-m-test.true, v.within, v.y_lo)
 
-mul-north : tie.Need-overflow-mul-north invariant-loop decreases-loop
-mul-north c = omega (arith, is_node (inside c))
+offset_bounds-y_hi-m : tie.Need-offset_bounds-y_hi-m invariant-loop-m decreases-loop-m
+offset_bounds-y_hi-m c = omega (arith, is_node (inside c))
 
-slice-set-from-north : tie.Need-slice-set-from-north invariant-loop decreases-loop
-slice-set-from-north c = let v = (inside c).before.loop.invariant in omega (arith, (inside c).loop-test.true, v.within, v.y_hi)
+bounds-y_hi-m : tie.Need-bounds-y_hi-m invariant-loop-m decreases-loop-m
+bounds-y_hi-m c = let v = (inside c).loop-m.invariant in omega (arith, (inside c).loop-m-test.true, v.within, v.y_hi)
 
-mul-kits : tie.Need-overflow-mul-kits invariant-loop decreases-loop
-mul-kits c = omega (arith, is_node (inside c))
+offset_bounds-kits-m : tie.Need-offset_bounds-kits-m invariant-loop-m decreases-loop-m
+offset_bounds-kits-m c = omega (arith, is_node (inside c))
 
-slice-write-kits : tie.Need-slice-write-kits invariant-loop decreases-loop
-slice-write-kits c = let v = (inside c).before.loop.invariant in omega (arith, (inside c).loop-test.true, v.within, v.words)
+bounds-kits-m : tie.Need-bounds-kits-m invariant-loop-m decreases-loop-m
+bounds-kits-m c = let v = (inside c).loop-m.invariant in omega (arith, (inside c).loop-m-test.true, v.within, v.words)
 
-loop-less : tie.Need-loop-smaller invariant-loop decreases-loop
-loop-less c = omega (arith, (inside c).loop-test.true)
+loop-m-smaller : tie.Need-loop-m-smaller invariant-loop-m decreases-loop-m
+loop-m-smaller c = omega (arith, (inside c).loop-m-test.true)
 
-loop-again : tie.Need-loop-preserved invariant-loop decreases-loop
-loop-again c =
+loop-m-preserved : tie.Need-loop-m-preserved invariant-loop-m decreases-loop-m
+loop-m-preserved c =
     let k = kitted c in
-    let b = k.before.before in
+    let b = k.before in
     let w = boxed b in
     let d = within w in
-    let n = (begin d).pre.1.0.0 in
+    let n = (begin d).requires.1.0.0 in
     let t = table_at (begin d) in
-    let v = d.before.loop.inv in
-    let e = run_due (read w) join_boxes (table.box_of t) (box_of t (sides_at d)) b.run-box.ensures (λ p. refl) (λ q a h. box_filled v q (omega arith) (omega (arith, n))) in
-    let f = run_due (read w) bit_or (table.kit_of t) (kit_of t d.before.loop.kits) k.run-kit.ensures (λ p. refl) (λ q a h. v.words.filled q (omega arith) (omega (arith, n))) in
-    let r = b.run-box.result in
-    let x = c.before.before.struct-told2.given in
-    let y = c.struct-told4.given in
+    let v = d.loop-m.invariant in
+    let e = run_due (read w) join_boxes (table.box_of t) (box_of t (sides_at d)) b.run_box-b.ensures (λ p. refl) (λ q a h. box_filled v q (omega arith) (omega (arith, n))) in
+    let f = run_due (read w) bit_or (table.kit_of t) (kit_of t d.loop-m.kits) k.run_kit-w.ensures (λ p. refl) (λ q a h. v.words.filled q (omega arith) (omega (arith, n))) in
+    let r = b.run_box-b.result in
+    let x = c.struct_told-in-loop-m-1.given in
+    let y = c.struct_told-in-loop-m-3-1.given in
     rw (to_z-of_z (fit r.x.lo x.0.1), to_z-of_z (fit r.x.hi x.1.0.1), to_z-of_z (fit r.y.lo y.0.1), to_z-of_z (fit r.y.hi y.1.0.1))
-    (value_more v r k.run-kit.result d.loop-test.true e f)
+    (value_more v r k.run_kit-w.result d.loop-m-test.true e f)
 
-same_length : tie.Need-same-length invariant-loop decreases-loop
-same_length c = c.before.loop.invariant.x_lo.same
+shape_of-x_lo : tie.Need-shape_of-x_lo invariant-loop-m decreases-loop-m
+shape_of-x_lo c = c.loop-m.invariant.x_lo.same
 
-same-length-2 : tie.Need-same-length-2 invariant-loop decreases-loop
-same-length-2 c = c.before.loop.invariant.x_hi.same
+shape_of-x_hi : tie.Need-shape_of-x_hi invariant-loop-m decreases-loop-m
+shape_of-x_hi c = c.loop-m.invariant.x_hi.same
 
-same-length-3 : tie.Need-same-length-3 invariant-loop decreases-loop
-same-length-3 c = c.before.loop.invariant.y_lo.same
+shape_of-y_lo : tie.Need-shape_of-y_lo invariant-loop-m decreases-loop-m
+shape_of-y_lo c = c.loop-m.invariant.y_lo.same
 
-same-length-4 : tie.Need-same-length-4 invariant-loop decreases-loop
-same-length-4 c = c.before.loop.invariant.y_hi.same
+shape_of-y_hi : tie.Need-shape_of-y_hi invariant-loop-m decreases-loop-m
+shape_of-y_hi c = c.loop-m.invariant.y_hi.same
 
-same-length-5 : tie.Need-same-length-5 invariant-loop decreases-loop
-same-length-5 c = c.before.loop.invariant.words.same
+shape_of-kits : tie.Need-shape_of-kits invariant-loop-m decreases-loop-m
+shape_of-kits c = c.loop-m.invariant.words.same
 
-returns : tie.Need-returns invariant-loop decreases-loop
+returns : tie.Need-returns invariant-loop-m decreases-loop-m
 returns c =
-    let v = c.before.loop.invariant in
-    let z : c.before.loop.m ≡ 0 = omega arith in
+    let v = c.loop-m.invariant in
+    let z : c.loop-m.m ≡ 0 = omega arith in
     (fill_done v.x_lo z refl, (fill_done v.x_hi z refl, (fill_done v.y_lo z refl, (fill_done v.y_hi z refl, fill_done v.words z refl))))
 
 pub fill_values_spec : {M : Type 1} → statement M
 fill_values_spec =
     tie.close
-    (tie.spec
-    invariant-loop
-    decreases-loop
-    loop-holds
-    sub-m
-    shared-slice-read-leaf
-    mul-wide16
-    shared-slice-read-wide16
-    wide16-requires
-    shared-slice-read-wide8
-    wide8-requires
-    run-box-requires
-    run-kit-requires
-    mul-west
-    slice-set-from-west
-    mul-east
-    slice-set-from-east
-    mul-south
-    slice-set-from-south
-    mul-north
-    slice-set-from-north
-    mul-kits
-    slice-write-kits
-    loop-less
-    loop-again
-    same_length
-    same-length-2
-    same-length-3
-    same-length-4
-    same-length-5
-    returns)
+    (tie.spec invariant-loop-m decreases-loop-m loop-m-init overflow_sub-m bounds-level-m offset_bounds-start-m bounds-start-m wide16-from-requires bounds-count-m wide8-many-requires run_box-b-requires run_kit-w-requires offset_bounds-x_lo-m bounds-x_lo-m offset_bounds-x_hi-m bounds-x_hi-m offset_bounds-y_lo-m bounds-y_lo-m offset_bounds-y_hi-m bounds-y_hi-m offset_bounds-kits-m bounds-kits-m loop-m-smaller loop-m-preserved shape_of-x_lo shape_of-x_hi shape_of-y_lo shape_of-y_hi shape_of-kits returns)

@@ -9,55 +9,43 @@ use Rattle.fill.proofs.FillLaws.{Filling, fill_none, fill_up, fill_done}
 use Rattle.fill.proofs.name_nodes.Statement.{statement}
 use Rattle.fill.proofs.name_nodes.Tie as tie
 
-abbrev invariant-loop : tie.invariant-loop
-invariant-loop many entries₀ i₀ entries i = (i ≤ many) × Filling 0 suc entries₀ entries 0 i
+abbrev invariant-loop-i : tie.invariant-loop-i
+invariant-loop-i many entries₀ i₀ entries i = (i ≤ many) × Filling 0 suc entries₀ entries 0 i
 
-abbrev decreases-loop : tie.decreases-loop
-decreases-loop many entries₀ i₀ entries i = many - i
+abbrev decreases-loop-i : tie.decreases-loop-i
+decreases-loop-i many entries₀ i₀ entries i = many - i
 
-loop-holds : tie.Need-loop-init invariant-loop decreases-loop
-loop-holds c = (omega arith, fill_none (omega arith))
+loop-i-init : tie.Need-loop-i-init invariant-loop-i decreases-loop-i
+loop-i-init c = (omega arith, fill_none (omega arith))
 
-add-entries : tie.Need-overflow-add-entries invariant-loop decreases-loop
-add-entries c = search rules
+overflow_add-entries : tie.Need-overflow_add-entries invariant-loop-i decreases-loop-i
+overflow_add-entries c = search rules
 
-cast-entries : tie.Need-overflow-cast-entries invariant-loop decreases-loop
-cast-entries c = search rules
+overflow_cast-entries : tie.Need-overflow_cast-entries invariant-loop-i decreases-loop-i
+overflow_cast-entries c = search rules
 
-mul-entries : tie.Need-overflow-mul-entries invariant-loop decreases-loop
-mul-entries c = search rules
+offset_bounds-entries-i : tie.Need-offset_bounds-entries-i invariant-loop-i decreases-loop-i
+offset_bounds-entries-i c = search rules
 
-slice-write-entries : tie.Need-slice-write-entries invariant-loop decreases-loop
-slice-write-entries c = search rules
+bounds-entries-i : tie.Need-bounds-entries-i invariant-loop-i decreases-loop-i
+bounds-entries-i c = search rules
 
-add-i : tie.Need-overflow-add-i invariant-loop decreases-loop
-add-i c = search rules
+overflow_add-i : tie.Need-overflow_add-i invariant-loop-i decreases-loop-i
+overflow_add-i c = search rules
 
-loop-less : tie.Need-loop-smaller invariant-loop decreases-loop
-loop-less c = search rules
+loop-i-smaller : tie.Need-loop-i-smaller invariant-loop-i decreases-loop-i
+loop-i-smaller c = search rules
 
-loop-again : tie.Need-loop-preserved invariant-loop decreases-loop
-loop-again c = let l = c.before.loop in (omega arith, fill_up l.invariant.1 (l.i + 1) (omega (arith, c.before.before.requires)) (add-one l.i))
+loop-i-preserved : tie.Need-loop-i-preserved invariant-loop-i decreases-loop-i
+loop-i-preserved c = let l = c.loop-i in (omega arith, fill_up l.invariant.1 (l.i + 1) (omega (arith, c.requires)) (add-one l.i))
 
-same_length : tie.Need-same-length invariant-loop decreases-loop
-same_length c = search rules
+shape_of-entries : tie.Need-shape_of-entries invariant-loop-i decreases-loop-i
+shape_of-entries c = search rules
 
-returns : tie.Need-returns invariant-loop decreases-loop
-returns c = fill_done c.before.loop.invariant.1 refl (omega arith)
+returns : tie.Need-returns invariant-loop-i decreases-loop-i
+returns c = fill_done c.loop-i.invariant.1 refl (omega arith)
 
 pub name_nodes_spec : {M : Type 1} → statement M
 name_nodes_spec =
     tie.close
-    (tie.spec
-    invariant-loop
-    decreases-loop
-    loop-holds
-    add-entries
-    cast-entries
-    mul-entries
-    slice-write-entries
-    add-i
-    loop-less
-    loop-again
-    same_length
-    returns)
+    (tie.spec invariant-loop-i decreases-loop-i loop-i-init overflow_add-entries overflow_cast-entries offset_bounds-entries-i bounds-entries-i overflow_add-i loop-i-smaller loop-i-preserved shape_of-entries returns)

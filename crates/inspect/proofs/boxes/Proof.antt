@@ -19,16 +19,16 @@ use Rattle.tree.proofs.NodeLaws.{Nodes, nodes_none, nodes_more, wider, run_says_
 use Rattle.inspect.proofs.boxes.Statement.{statement}
 use Rattle.inspect.proofs.boxes.Tie as tie
 
-abbrev invariant-loop : tie.invariant-loop
-invariant-loop nodes listed level start count entries x y x_lo x_hi y_lo y_hi n₀ n =
+abbrev invariant-loop-n : tie.invariant-loop-n
+invariant-loop-n nodes listed level start count entries x y x_lo x_hi y_lo y_hi n₀ n =
     let s = shape nodes listed level start count entries in
     Nodes s (Boxed (table x y []) (sides x_lo x_hi y_lo y_hi) s) n
 
-abbrev decreases-loop : tie.decreases-loop
-decreases-loop nodes listed level start count entries x y x_lo x_hi y_lo y_hi n₀ n = nodes - n
+abbrev decreases-loop-n : tie.decreases-loop-n
+decreases-loop-n nodes listed level start count entries x y x_lo x_hi y_lo y_hi n₀ n = nodes - n
 
 abbrev Start : Type 0
-Start = tie.Start invariant-loop decreases-loop
+Start = tie.Start invariant-loop-n decreases-loop-n
 
 abbrev shape_at : Start → Shape
 shape_at s = shape s.args.nodes s.args.listed s.args.level.now s.args.start.now s.args.count.now s.args.entries.now
@@ -39,116 +39,99 @@ table_at s = table s.args.x.now s.args.y.now []
 abbrev sides_at : Start → Sides
 sides_at s = sides s.args.x_lo.now s.args.x_hi.now s.args.y_lo.now s.args.y_hi.now
 
-abbrev begin : tie.In-loop invariant-loop decreases-loop → Start
+abbrev begin : tie.In-loop-n invariant-loop-n decreases-loop-n → Start
 begin c = c.before.before.before.before.before.before
 
 runs : (s : Start) → Runs (shape_at s)
 runs s = runs_of s.requires.1.0
 
-loop-holds : tie.Need-loop-init invariant-loop decreases-loop
-loop-holds c = nodes_none _ _
+loop-n-init : tie.Need-loop-n-init invariant-loop-n decreases-loop-n
+loop-n-init c = nodes_none _ _
 
-mul-wide16 : tie.Need-overflow-mul-wide16 invariant-loop decreases-loop
-mul-wide16 c = omega (arith, (begin c).requires.0.start)
+offset_bounds-start-n : tie.Need-offset_bounds-start-n invariant-loop-n decreases-loop-n
+offset_bounds-start-n c = omega (arith, (begin c).requires.0.start)
 
-shared-slice-read-wide16 : tie.Need-shared-slice-read-wide16 invariant-loop decreases-loop
-shared-slice-read-wide16 c = omega (arith, (begin c.before).requires.0.start)
+bounds-start-n : tie.Need-bounds-start-n invariant-loop-n decreases-loop-n
+bounds-start-n c = omega (arith, (begin c.before).requires.0.start)
 
-wide16-requires : tie.Need-wide16-requires invariant-loop decreases-loop
-wide16-requires c κs = tt
+wide16-from-requires : tie.Need-wide16-from-requires invariant-loop-n decreases-loop-n
+wide16-from-requires c κs = tt
 
-shared-slice-read-wide8 : tie.Need-shared-slice-read-wide8 invariant-loop decreases-loop
-shared-slice-read-wide8 c = omega (arith, (begin c.before.before.before).requires.0.count)
+bounds-count-n : tie.Need-bounds-count-n invariant-loop-n decreases-loop-n
+bounds-count-n c = omega (arith, (begin c.before.before.before).requires.0.count)
 
-wide8-requires : tie.Need-wide8-requires invariant-loop decreases-loop
-wide8-requires c κs = tt
+wide8-many-requires : tie.Need-wide8-many-requires invariant-loop-n decreases-loop-n
+wide8-many-requires c κs = tt
 
-box-at-requires : tie.Need-box-at-requires invariant-loop decreases-loop
-box-at-requires c κs =
+box_at-said-requires : tie.Need-box_at-said-requires invariant-loop-n decreases-loop-n
+box_at-said-requires c κs =
     let d = c.before.before.before.before in
     let p = (begin d).requires.1.1.1.1 in
-    let l = d.loop-test.true in
+    let l = d.loop-n-test.true in
     (omega (arith, l, p.0), (omega (arith, l, p.1.0), (omega (arith, l, p.1.1.0), omega (arith, l, p.1.1.1))))
 
-shared-slice-read-run-box : tie.Need-shared-slice-read-run-box invariant-loop decreases-loop
-shared-slice-read-run-box c = omega (arith, (begin c.before.before.before.before.before.before).requires.0.level)
+bounds-level-n : tie.Need-bounds-level-n invariant-loop-n decreases-loop-n
+bounds-level-n c = omega (arith, (begin c.before.before.before.before.before.before).requires.0.level)
 
-run-box-requires : tie.Need-run-box-requires invariant-loop decreases-loop
-run-box-requires c κs =
+run_box-due-requires : tie.Need-run_box-due-requires invariant-loop-n decreases-loop-n
+run_box-due-requires c κs =
     let w = c.before.before in
     let d = w.before.before.before.before in
     let s = begin d in
-    let n = d.before.loop.n in
-    let p = s.pre.1.1.1 in
-    let h = w.before.before.wide16.ensures in
-    let k = w.wide8.ensures in
-    let leaf = leaf_in (runs s) n d.loop-test.true (length s.args.x.now) s.pre.1.1.0 s.pre.0.entries in
-    let node = node_in (runs s) n d.loop-test.true (length s.args.x.now) s.pre.1.1.0 s.pre.0.entries in
+    let n = d.loop-n.n in
+    let p = s.requires.1.1.1 in
+    let h = w.wide16-from.ensures in
+    let k = w.wide8-many.ensures in
+    let leaf = leaf_in (runs s) n d.loop-n-test.true (length s.args.x.now) s.requires.1.1.0 s.requires.0.entries in
+    let node = node_in (runs s) n d.loop-n-test.true (length s.args.x.now) s.requires.1.1.0 s.requires.0.entries in
     rw (h, k) (
       λ e. (leaf e, wider (omega arith) (leaf e)),
       (λ e. (wider p.1.0 (node e), wider p.1.1.0 (node e)), λ e. (wider p.1.1.1.0 (node e), wider p.1.1.1.1 (node e))),
     )
 
-same-box-requires : tie.Need-same-box-requires invariant-loop decreases-loop
-same-box-requires c κs = search rules
+same_box-requires : tie.Need-same_box-requires invariant-loop-n decreases-loop-n
+same_box-requires c κs = search rules
 
 -- the box that is due at n
-due_is : (c : tie.After-run-box invariant-loop decreases-loop) → let d = c.before.before.before.before.before.before.before in let s = begin d in
-    c.run-box.result ≡ joined_run join_boxes (box_of (table_at s) (sides_at s)) (shape_at s) d.before.loop.n
+due_is : (c : tie.After-run_box-due invariant-loop-n decreases-loop-n) → let d = c.before.before.before.before.before.before.before in let s = begin d in
+    c.run_box-due.result ≡ joined_run join_boxes (box_of (table_at s) (sides_at s)) (shape_at s) d.loop-n.n
 due_is c =
     let w = c.before.before.before in
     let d = w.before.before.before.before in
     let s = begin d in
-    let n = d.before.loop.n in
-    c.run-box.ensures
-    ∙ ap₂ (run_says join_boxes (box_of (table_at s) (sides_at s)) (eqb (level_of (shape_at s) n) 1) s.args.entries.now) w.before.before.wide16.ensures w.wide8.ensures
-    ∙ run_says_lem (runs s) n d.loop-test.true join_boxes (box_of (table_at s) (sides_at s))
+    let n = d.loop-n.n in
+    c.run_box-due.ensures
+    ∙ ap₂ (run_says join_boxes (box_of (table_at s) (sides_at s)) (eqb (level_of (shape_at s) n) 1) s.args.entries.now) w.wide16-from.ensures w.wide8-many.ensures
+    ∙ run_says_lem (runs s) n d.loop-n-test.true join_boxes (box_of (table_at s) (sides_at s))
 
-returns : tie.Need-returns invariant-loop decreases-loop
-returns c =
+returns-then-not-same_box : tie.Need-returns-then-not-same_box invariant-loop-n decreases-loop-n
+returns-then-not-same_box c =
     let r = c.before.before in
     let d = r.before.before.before.before.before.before.before in
     let s = begin d in
-    let n = d.before.loop.n in
-    breaks_at (rule25 (table_at s) (sides_at s) (shape_at s)) refl [] n d.loop-test.true d.before.loop.invariant.past
-    (λ e. c.before.same-box.ensures.fails (not-true _ c.if1.true) (r.before.before.box_at_lem.ensures ∙ e ∙ sym (due_is r)))
+    let n = d.loop-n.n in
+    breaks_at (rule25 (table_at s) (sides_at s) (shape_at s)) refl [] n d.loop-n-test.true d.loop-n.invariant.past
+    (λ e. c.same_box.ensures.fails c.if-not-same_box.true (r.box_at-said.ensures ∙ e ∙ sym (due_is r)))
 
-add-n : tie.Need-overflow-add-n invariant-loop decreases-loop
-add-n c = omega (arith, (begin c.before.before.before.before.before.before.before.before.before).requires.0.few)
+overflow_add-n : tie.Need-overflow_add-n invariant-loop-n decreases-loop-n
+overflow_add-n c = omega (arith, (begin c.before.before.before.before.before.before.before.before.before).requires.0.few)
 
-loop-less : tie.Need-loop-smaller invariant-loop decreases-loop
-loop-less c = omega arith
+loop-n-smaller : tie.Need-loop-n-smaller invariant-loop-n decreases-loop-n
+loop-n-smaller c = omega arith
 
-loop-again : tie.Need-loop-preserved invariant-loop decreases-loop
-loop-again c =
+loop-n-preserved : tie.Need-loop-n-preserved invariant-loop-n decreases-loop-n
+loop-n-preserved c =
     let r = c.before.before in
     let d = r.before.before.before.before.before.before.before in
-    nodes_more _ _ _ d.before.loop.invariant d.loop-test.true
-    (sym r.before.before.box_at_lem.ensures ∙ c.before.same-box.ensures.holds (not-false _ c.if1.false) ∙ due_is r)
+    nodes_more _ _ _ d.loop-n.invariant d.loop-n-test.true
+    (sym r.box_at-said.ensures ∙ c.same_box.ensures.holds c.if-not-same_box.false ∙ due_is r)
 
-returns-2 : tie.Need-returns-2 invariant-loop decreases-loop
-returns-2 c =
+returns : tie.Need-returns invariant-loop-n decreases-loop-n
+returns c =
     let s = c.before.before.before.before.before.before in
-    holds_all (rule25 (table_at s) (sides_at s) (shape_at s)) refl (λ k b. c.before.loop.invariant.past k (omega arith))
+    holds_all (rule25 (table_at s) (sides_at s) (shape_at s)) refl (λ k b. c.loop-n.invariant.past k (omega arith))
 
 pub boxes_spec : {M : Type 1} → statement M
 boxes_spec =
     tie.close
-    (tie.spec
-    invariant-loop
-    decreases-loop
-    loop-holds
-    mul-wide16
-    shared-slice-read-wide16
-    wide16-requires
-    shared-slice-read-wide8
-    wide8-requires
-    box-at-requires
-    shared-slice-read-run-box
-    run-box-requires
-    same-box-requires
-    returns
-    add-n
-    loop-less
-    loop-again
-    returns-2)
+    (tie.spec invariant-loop-n decreases-loop-n loop-n-init offset_bounds-start-n bounds-start-n wide16-from-requires bounds-count-n wide8-many-requires box_at-said-requires bounds-level-n run_box-due-requires same_box-requires returns-then-not-same_box overflow_add-n loop-n-smaller loop-n-preserved returns)

@@ -57,112 +57,100 @@ abbrev after_first : tie.Start → List Rule
 after_first s = rules22 (shape_at s) ++ after-runs s
 
 -- where each part begins
-abbrev begin1 : tie.Else1 → tie.Start
+abbrev begin1 : tie.Else-a-ne0 → tie.Start
 begin1 c = c.before.before.before.before.before.before.before.before.before
 
-abbrev begin2 : tie.Else2 → tie.Start
+abbrev begin2 : tie.Else-b-ne0 → tie.Start
 begin2 c = begin1 c.before.before.before
 
-abbrev begin3 : tie.Else3 → tie.Start
+abbrev begin3 : tie.Else-c-ne0 → tie.Start
 begin3 c = begin2 c.before.before.before
 
-abbrev begin4 : tie.Else4 → tie.Start
+abbrev begin4 : tie.Else-d-ne0 → tie.Start
 begin4 c = begin3 c.before.before.before
 
-abbrev begin5 : tie.Else5 → tie.Start
+abbrev begin5 : tie.Else-e-ne0 → tie.Start
 begin5 c = begin4 c.before.before.before
 
-counted-requires : tie.Need-counted-requires
-counted-requires c κs = c.before.before.before.before.before.before.requires.few
+counted-a-requires : tie.Need-counted-a-requires
+counted-a-requires c κs = c.requires.few
 
-returns : tie.Need-returns
-returns c = let d = c.before.before in let s = d.before.before.before.before.before.before.before in stopped (first s) (after_first s) d.counted.result d.counted.ensures c.if1.true
+returns-then-a-ne0 : tie.Need-returns-then-a-ne0
+returns-then-a-ne0 c = let d = c.before.before in let s = d.before.before.before.before.before.before.before in stopped (first s) (after_first s) d.counted-a.result d.counted-a.ensures c.if-a-ne0.true
 
 -- what rule 21 leaves known
-counted : (c : tie.Else1) → let s = begin1 c in Counted (length s.args.x.now) s.args.nodes s.args.listed (lengths (treeAt s))
-counted c = let s = begin1 c in (passed (first s) [] c.before.before.counted.result c.before.before.counted.ensures c.if1.false).0 0 (omega arith) (omega arith)
+counted : (c : tie.Else-a-ne0) → let s = begin1 c in Counted (length s.args.x.now) s.args.nodes s.args.listed (lengths (treeAt s))
+counted c = let s = begin1 c in (passed (first s) [] c.counted-a.result c.counted-a.ensures c.if-a-ne0.false).0 0 (omega arith) (omega arith)
 
-columns : (c : tie.Else1) → Columns (shape_at (begin1 c))
+columns : (c : tie.Else-a-ne0) → Columns (shape_at (begin1 c))
 columns c = let k = counted c in record { few = k.few; level = k.room.level; start = k.room.start; count = k.room.count; entries = k.room.entries }
 
-on1 : (c : tie.Else1) {w : Verdict} → w ≡ verdict (after_first (begin1 c)) → w ≡ verdict (all (begin1 c))
-on1 c e = let s = begin1 c in passed_on (first s) (after_first s) c.before.before.counted.result c.before.before.counted.ensures c.if1.false _ e
+on1 : (c : tie.Else-a-ne0) {w : Verdict} → w ≡ verdict (after_first (begin1 c)) → w ≡ verdict (all (begin1 c))
+on1 c e = let s = begin1 c in passed_on (first s) (after_first s) c.counted-a.result c.counted-a.ensures c.if-a-ne0.false _ e
 
-runs-requires : tie.Need-runs-requires
-runs-requires c κs = let k = columns c in (k.few, (k.level, (k.start, k.count)))
+runs-b-requires : tie.Need-runs-b-requires
+runs-b-requires c κs = let k = columns c in (k.few, (k.level, (k.start, k.count)))
 
-returns-2 : tie.Need-returns-2
-returns-2 c = let d = c.before.before in let s = begin1 d.before in on1 d.before (stopped (rules22 (shape_at s)) (after-runs s) d.runs.result (d.runs.ensures s.args.entries.now) c.if2.true)
+returns-then-b-ne0 : tie.Need-returns-then-b-ne0
+returns-then-b-ne0 c = let d = c.before.before in let s = begin1 d.before in on1 d.before (stopped (rules22 (shape_at s)) (after-runs s) d.runs-b.result (d.runs-b.ensures s.args.entries.now) c.if-b-ne0.true)
 
-on2 : (c : tie.Else2) {w : Verdict} → w ≡ verdict (after-runs (begin2 c)) → w ≡ verdict (all (begin2 c))
+on2 : (c : tie.Else-b-ne0) {w : Verdict} → w ≡ verdict (after-runs (begin2 c)) → w ≡ verdict (all (begin2 c))
 on2 c e =
     let d = c.before.before in
     let s = begin2 c in
-    on1 d.before (passed_on (rules22 (shape_at s)) (after-runs s) d.runs.result (d.runs.ensures s.args.entries.now) c.if2.false _ e)
+    on1 d.before (passed_on (rules22 (shape_at s)) (after-runs s) d.runs-b.result (d.runs-b.ensures s.args.entries.now) c.if-b-ne0.false _ e)
 
-runs : (c : tie.Else2) → AllHold (rules22 (shape_at (begin2 c)))
-runs c = let d = c.before.before in let s = begin2 c in passed (rules22 (shape_at s)) [] d.runs.result (d.runs.ensures s.args.entries.now) c.if2.false
+runs : (c : tie.Else-b-ne0) → AllHold (rules22 (shape_at (begin2 c)))
+runs c = let d = c.before.before in let s = begin2 c in passed (rules22 (shape_at s)) [] d.runs-b.result (d.runs-b.ensures s.args.entries.now) c.if-b-ne0.false
 
-names-requires : tie.Need-names-requires
-names-requires c κs = (columns c.before.before.before, runs c)
+names-c-requires : tie.Need-names-c-requires
+names-c-requires c κs = (columns c.before.before.before, runs c)
 
-returns-3 : tie.Need-returns-3
-returns-3 c = let d = c.before.before in let s = begin2 d.before in on2 d.before (stopped (names s) (after-names s) d.names.result d.names.ensures c.if3.true)
+returns-then-c-ne0 : tie.Need-returns-then-c-ne0
+returns-then-c-ne0 c = let d = c.before.before in let s = begin2 d.before in on2 d.before (stopped (names s) (after-names s) d.names-c.result d.names-c.ensures c.if-c-ne0.true)
 
-on3 : (c : tie.Else3) {w : Verdict} → w ≡ verdict (after-names (begin3 c)) → w ≡ verdict (all (begin3 c))
-on3 c e = let d = c.before.before in let s = begin3 c in on2 d.before (passed_on (names s) (after-names s) d.names.result d.names.ensures c.if3.false _ e)
+on3 : (c : tie.Else-c-ne0) {w : Verdict} → w ≡ verdict (after-names (begin3 c)) → w ≡ verdict (all (begin3 c))
+on3 c e = let d = c.before.before in let s = begin3 c in on2 d.before (passed_on (names s) (after-names s) d.names-c.result d.names-c.ensures c.if-c-ne0.false _ e)
 
-named : (c : tie.Else3) → let s = begin3 c in Holds (rule23 (length s.args.x.now) (shape_at s))
-named c = let d = c.before.before in (passed (names (begin3 c)) [] d.names.result d.names.ensures c.if3.false).0
+named : (c : tie.Else-c-ne0) → let s = begin3 c in Holds (rule23 (length s.args.x.now) (shape_at s))
+named c = let d = c.before.before in (passed (names (begin3 c)) [] d.names-c.result d.names-c.ensures c.if-c-ne0.false).0
 
-distinct-requires : tie.Need-distinct-requires
-distinct-requires c κs = let d = c.before.before.before in (columns d.before.before.before, (runs d, names_more (length (begin3 c).args.x.now) 4096 (shape_at (begin3 c)) (begin3 c).requires.few (named c)))
+distinct-d-requires : tie.Need-distinct-d-requires
+distinct-d-requires c κs = let d = c.before.before.before in (columns d.before.before.before, (runs d, names_more (length (begin3 c).args.x.now) 4096 (shape_at (begin3 c)) (begin3 c).requires.few (named c)))
 
-returns-4 : tie.Need-returns-4
-returns-4 c = let d = c.before.before in let s = begin3 d.before in on3 d.before (stopped (distinct s) (boxes s ++ last s) d.distinct.result d.distinct.ensures c.if4.true)
+returns-then-d-ne0 : tie.Need-returns-then-d-ne0
+returns-then-d-ne0 c = let d = c.before.before in let s = begin3 d.before in on3 d.before (stopped (distinct s) (boxes s ++ last s) d.distinct-d.result d.distinct-d.ensures c.if-d-ne0.true)
 
-on4 : (c : tie.Else4) {w : Verdict} → w ≡ verdict (boxes (begin4 c) ++ last (begin4 c)) → w ≡ verdict (all (begin4 c))
-on4 c e = let d = c.before.before in let s = begin4 c in on3 d.before (passed_on (distinct s) (boxes s ++ last s) d.distinct.result d.distinct.ensures c.if4.false _ e)
+on4 : (c : tie.Else-d-ne0) {w : Verdict} → w ≡ verdict (boxes (begin4 c) ++ last (begin4 c)) → w ≡ verdict (all (begin4 c))
+on4 c e = let d = c.before.before in let s = begin4 c in on3 d.before (passed_on (distinct s) (boxes s ++ last s) d.distinct-d.result d.distinct-d.ensures c.if-d-ne0.false _ e)
 
-boxes-requires : tie.Need-boxes-requires
-boxes-requires c κs =
+boxes-e-requires : tie.Need-boxes-e-requires
+boxes-e-requires c κs =
     let e = c.before.before.before in
     let d = e.before.before.before in
     let b = d.before.before.before in
     let r = (counted b).room in
     (columns b, (runs d, (named e, ((begin4 c).requires.y, (r.x_lo, (r.x_hi, (r.y_lo, r.y_hi)))))))
 
-returns-5 : tie.Need-returns-5
-returns-5 c = let d = c.before.before in let s = begin4 d.before in on4 d.before (stopped (boxes s) (last s) d.boxes.result d.boxes.ensures c.if5.true)
+returns-then-e-ne0 : tie.Need-returns-then-e-ne0
+returns-then-e-ne0 c = let d = c.before.before in let s = begin4 d.before in on4 d.before (stopped (boxes s) (last s) d.boxes-e.result d.boxes-e.ensures c.if-e-ne0.true)
 
-kit-words-requires : tie.Need-kit-words-requires
-kit-words-requires c κs =
+kit_words-requires : tie.Need-kit_words-requires
+kit_words-requires c κs =
     let f = c.before.before.before in
     let e = f.before.before.before in
     let d = e.before.before.before in
     let b = d.before.before.before in
     let s = begin5 c in
-    (columns b, (runs d, (subst (λ (p : ℕ). Holds (rule23 p (shape_at s))) (sym s.pre.kit) (named e), (counted b).room.kits)))
+    (columns b, (runs d, (subst (λ (p : ℕ). Holds (rule23 p (shape_at s))) (sym s.requires.kit) (named e), (counted b).room.kits)))
 
-returns-6 : tie.Need-returns-6
-returns-6 c =
+returns : tie.Need-returns
+returns c =
     let d = c.before.before.before in
     let s = begin5 c.before in
-    on4 d.before (passed_on (boxes s) (last s) d.boxes.result d.boxes.ensures c.before.if5.false _ c.kit-words.ensures)
+    on4 d.before (passed_on (boxes s) (last s) d.boxes-e.result d.boxes-e.ensures c.if-e-ne0.false _ c.kit_words.ensures)
 
 pub check_tree_spec : {M : Type 1} → statement M
 check_tree_spec =
     tie.close
-    (tie.spec
-    counted-requires
-    returns
-    runs-requires
-    returns-2
-    names-requires
-    returns-3
-    distinct-requires
-    returns-4
-    boxes-requires
-    returns-5
-    kit-words-requires
-    returns-6)
+    (tie.spec counted-a-requires returns-then-a-ne0 runs-b-requires returns-then-b-ne0 names-c-requires returns-then-c-ne0 distinct-d-requires returns-then-d-ne0 boxes-e-requires returns-then-e-ne0 kit_words-requires returns)

@@ -7,19 +7,19 @@ use Rattle.tree.proofs.DecidesLaws.{decides_no, decides_by}
 use Rattle.inspect.proofs.same_box.Statement.{statement}
 use Rattle.inspect.proofs.same_box.Tie as tie
 
-same-span-requires : tie.Need-same-span-requires
-same-span-requires c κs = search rules
+same_span-requires : tie.Need-same_span-requires
+same_span-requires c κs = search rules
+
+returns-then-not-same_span : tie.Need-returns-then-not-same_span
+returns-then-not-same_span c = decides_no (λ e. c.same_span.ensures.fails c.if-not-same_span.true (ap (λ (b : Box). b.x) e))
+
+same_span-requires-2 : tie.Need-same_span-requires-2
+same_span-requires-2 c κs = search rules
 
 returns : tie.Need-returns
-returns c = decides_no (λ e. c.before.same_span.ensures.fails (not-true _ c.if1.true) (ap (λ (b : Box). b.x) e))
-
-same-span-requires-2 : tie.Need-same-span-requires-2
-same-span-requires-2 c κs = search rules
-
-returns-2 : tie.Need-returns-2
-returns-2 c =
+returns c =
     let d = c.before.before.before in
-    decides_by (λ e. ap₂ box (d.before.same_span.ensures.holds (not-false _ d.if1.false)) e) (λ e. ap (λ (b : Box). b.y) e) c.same-span2.ensures
+    decides_by (λ e. ap₂ box (d.same_span.ensures.holds d.if-not-same_span.false) e) (λ e. ap (λ (b : Box). b.y) e) c.same_span-2.ensures
 
 pub same_box_spec : {M : Type 1} → statement M
-same_box_spec = tie.close (tie.spec same-span-requires returns same-span-requires-2 returns-2)
+same_box_spec = tie.close (tie.spec same_span-requires returns-then-not-same_span same_span-requires-2 returns)

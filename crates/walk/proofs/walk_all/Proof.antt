@@ -57,27 +57,27 @@ many s =
 room : (s : tie.Start) → Room s.args.nodes s.args.listed (lengths (over s))
 room s = (meets s.requires.0).counted.room
 
-box-at-requires : tie.Need-box-at-requires
-box-at-requires c κs =
+box_at-at-requires : tie.Need-box_at-at-requires
+box_at-at-requires c κs =
     let s = c.before.before.before.before.before.before in
     let q = room s in
     let l = some s in
     (omega (arith, q.x_lo), (omega (arith, q.x_hi), (omega (arith, q.y_lo), omega (arith, q.y_hi))))
 
-abbrev begin : tie.After-box-at → tie.Start
+abbrev begin : tie.After-box_at-at → tie.Start
 begin c = c.before.before.before.before.before.before.before
 
-shared-slice-read-descend : tie.Need-shared-slice-read-descend
-shared-slice-read-descend c = let s = begin c.before.before.before.before in omega (arith, some s, (room s).level)
+bounds-level-0 : tie.Need-bounds-level-0
+bounds-level-0 c = let s = begin c.before.before.before.before in omega (arith, some s, (room s).level)
 
 -- the root's member
 abbrev root : tie.Start → Member
 root s = member_of (places s) (over s) (node 0)
 
 abbrev Sent : Type 0
-Sent = tie.After-struct-told8
+Sent = tie.After-struct_told-then-allowance-gt0-7-1
 
-abbrev boxed : Sent → tie.After-box-at
+abbrev boxed : Sent → tie.After-box_at-at
 boxed c = c.before.before.before.before.before.before.before.before.before.before.before.before.before.before.before.before
 
 -- a side, as it goes through the machine's bits
@@ -89,20 +89,20 @@ columns s w e a b =
     members_at (levels_at s.args.m 0 (get_or s.args.level.now 0 0)) (set (replicate 8 0) 0 0) (sides (set (replicate 8 w) 0 w) (set (replicate 8 e) 0 e) (set (replicate 8 a) 0 a) (set (replicate 8 b) 0 b))
 
 abbrev sent : Sent → List Member
-sent c = let b = (boxed c).box_at_lem.result in columns (begin (boxed c)) (passed b.x.lo) (passed b.x.hi) (passed b.y.lo) (passed b.y.hi)
+sent c = let b = (boxed c).box_at-at.result in columns (begin (boxed c)) (passed b.x.lo) (passed b.x.hi) (passed b.y.lo) (passed b.y.hi)
 
 sent_so : (c : Sent) → let s = begin (boxed c) in take s.args.m (sent c) ≡ take s.args.m (replicate 8 (root s))
 sent_so c =
     let s = begin (boxed c) in
-    let b = (boxed c).box_at_lem.result in
-    let x = c.before.before.before.before.before.before.before.before.before.before.struct-told2.given in
-    let y = c.before.before.before.before.before.before.before.before.struct-told4.given in
+    let b = (boxed c).box_at-at.result in
+    let x = c.struct_told-then-allowance-gt0-1.given in
+    let y = c.struct_told-then-allowance-gt0-3-1.given in
     let l = get_or s.args.level.now 0 0 in
     ap (take s.args.m)
     (ap₂ (λ (u v : ℤ). columns s u v (passed b.y.lo) (passed b.y.hi)) (to_z-of_z (fit b.x.lo x.0.1)) (to_z-of_z (fit b.x.hi x.1.0.1))
     ∙ ap₂ (λ (u v : ℤ). columns s b.x.lo b.x.hi u v) (to_z-of_z (fit b.y.lo y.0.1)) (to_z-of_z (fit b.y.hi y.1.0.1)))
-    ∙ columns_roots s.args.m (record { level = l; number = 0; at = b }) s.pre.1.0.most
-    ∙ ap (λ (d : Box). take s.args.m (replicate 8 (record { level = l; number = 0; at = d }))) (boxed c).box_at_lem.ensures
+    ∙ columns_roots s.args.m (record { level = l; number = 0; at = b }) s.requires.1.0.most
+    ∙ ap (λ (d : Box). take s.args.m (replicate 8 (record { level = l; number = 0; at = d }))) (boxed c).box_at-at.ensures
 
 -- nothing is known at first
 abbrev nothing : Best
@@ -130,26 +130,26 @@ open_so s = record {
   eight = refl;
 }
 
-descend-requires : tie.Need-descend-requires
-descend-requires c κs =
+descend-spent-requires : tie.Need-descend-spent-requires
+descend-spent-requires c κs =
     let s = begin (boxed c) in
-    (omega arith, (s.pre.0, (s.pre.1.0, opened_same (sym (sent_so c)) (open_so s))))
+    (omega arith, (s.requires.0, (s.requires.1.0, opened_same (sym (sent_so c)) (open_so s))))
 
-returns : tie.Need-returns
-returns c =
+returns-then-allowance-gt0 : tie.Need-returns-then-allowance-gt0
+returns-then-allowance-gt0 c =
     let d : Sent = c.before in
     let s = begin (boxed d) in
-    let last = c.descend.new.1.1.1.1.1.1.1.1.1.1.1.1.1.1.1.1.1.1.1.1.1.1.1.1.1.1.1.1.1.1 in
-    let after : Stand Best = stand last.0 c.descend.result (best_at last.1.0 last.1.1.0 last.1.1.1.0) in
-    let led : Led (places s) (over s) (wanted s) s.args.allowance s.args.m (replicate 8 (root s)) 0 (stand 1 false nothing) after = led_same (sent_so d) c.descend.ensures in
+    let last = c.descend-spent.new in
+    let after : Stand Best = stand last.steps c.descend-spent.result (best_at last.known last.squared last.places) in
+    let led : Led (places s) (over s) (wanted s) s.args.allowance s.args.m (replicate 8 (root s)) 0 (stand 1 false nothing) after = led_same (sent_so d) c.descend-spent.ensures in
     let from = ap₂ (λ (q : List Thing) (i : ℕ). leads (places s) (over s) (wanted s) s.args.allowance q i (entries_of (over s).shape (member q i)) (stand 1 false nothing)) (things s) (sym (top s)) in
-    stood (meets s.pre.0) (wanted s) s.pre.1.1 s.args.allowance after
-    (led.led ∙ from ∙ sym (taken_open (places s) (over s) (wanted s) s.args.allowance (roots (wanted s)) 0 nothing d.before.before.before.before.before.before.before.before.before.before.before.before.before.before.before.if1.true (λ e. absurd (false≢true e)) (whole s)))
+    stood (meets s.requires.0) (wanted s) s.requires.1.1 s.args.allowance after
+    (led.led ∙ from ∙ sym (taken_open (places s) (over s) (wanted s) s.args.allowance (roots (wanted s)) 0 nothing d.if-allowance-gt0.true (λ e. absurd (false≢true e)) (whole s)))
 
-returns-2 : tie.Need-returns-2
-returns-2 c =
+returns-else-allowance-gt0 : tie.Need-returns-else-allowance-gt0
+returns-else-allowance-gt0 c =
     let s = begin c.before in
-    stood (meets s.pre.0) (wanted s) s.pre.1.1 s.args.allowance (stand 0 true nothing) (sym (taken_spent (places s) (over s) (wanted s) s.args.allowance (roots (wanted s)) 0 nothing c.if1.false))
+    stood (meets s.requires.0) (wanted s) s.requires.1.1 s.args.allowance (stand 0 true nothing) (sym (taken_spent (places s) (over s) (wanted s) s.args.allowance (roots (wanted s)) 0 nothing c.if-allowance-gt0.false))
 
 pub walk_all_spec : {M : Type 1} → statement M
-walk_all_spec = tie.close (tie.spec box-at-requires shared-slice-read-descend descend-requires returns returns-2)
+walk_all_spec = tie.close (tie.spec box_at-at-requires bounds-level-0 descend-spent-requires returns-then-allowance-gt0 returns-else-allowance-gt0)

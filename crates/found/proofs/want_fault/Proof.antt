@@ -6,21 +6,21 @@ use Rattle.found.specs.Search.{rule1, rule2}
 use Rattle.found.proofs.want_fault.Statement.{statement}
 use Rattle.found.proofs.want_fault.Tie as tie
 
-count-kinds-requires : tie.Need-count-kinds-requires
-count-kinds-requires c κs = search rules
+count_kinds-many-requires : tie.Need-count_kinds-many-requires
+count_kinds-many-requires c κs = search rules
+
+returns-then-many-lt1 : tie.Need-returns-then-many-lt1
+returns-then-many-lt1 c = breaks_at (rule1 _) refl _ 0 (omega arith) (λ j l. absurd (omega arith)) (λ h. omega (arith, c.if-many-lt1.true, c.count_kinds-many.ensures))
+
+returns-then-many-gt8 : tie.Need-returns-then-many-gt8
+returns-then-many-gt8 c =
+    breaks_at (rule2 _) refl _ 0 (omega arith) (λ j l. absurd (omega arith)) (λ h. omega (arith, c.if-many-gt8.true, c.count_kinds-many.ensures))
+    ∙ holds_on (rule1 _) refl _ (λ j l. omega (arith, c.if-many-lt1.false, c.count_kinds-many.ensures))
 
 returns : tie.Need-returns
-returns c = breaks_at (rule1 _) refl _ 0 (omega arith) (λ j l. absurd (omega arith)) (λ h. omega (arith, c.if1.true, c.before.count-kinds.ensures))
-
-returns-2 : tie.Need-returns-2
-returns-2 c =
-    breaks_at (rule2 _) refl _ 0 (omega arith) (λ j l. absurd (omega arith)) (λ h. omega (arith, c.if2.true, c.before.before.count-kinds.ensures))
-    ∙ holds_on (rule1 _) refl _ (λ j l. omega (arith, c.before.if1.false, c.before.before.count-kinds.ensures))
-
-returns-3 : tie.Need-returns-3
-returns-3 c =
-    holds_all (rule2 _) refl (λ j l. omega (arith, c.if2.false, c.before.before.count-kinds.ensures))
-    ∙ holds_on (rule1 _) refl _ (λ j l. omega (arith, c.before.if1.false, c.before.before.count-kinds.ensures))
+returns c =
+    holds_all (rule2 _) refl (λ j l. omega (arith, c.if-many-gt8.false, c.count_kinds-many.ensures))
+    ∙ holds_on (rule1 _) refl _ (λ j l. omega (arith, c.if-many-lt1.false, c.count_kinds-many.ensures))
 
 pub want_fault_spec : {M : Type 1} → statement M
-want_fault_spec = tie.close (tie.spec count-kinds-requires returns returns-2 returns-3)
+want_fault_spec = tie.close (tie.spec count_kinds-many-requires returns-then-many-lt1 returns-then-many-gt8 returns)

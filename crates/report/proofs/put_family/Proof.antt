@@ -16,94 +16,58 @@ use Rattle.report.proofs.put_family.Tie as tie
 abbrev line : From → List ℕ
 line f = word_line "from=" (family_word f)
 
-module _ (c : tie.After-family) (f : From) (e : c.family.result ≡ f) where
-  room : let a = c.before.before.args in a.at + length (line f) ≤ length a.out.now
+module _ (c : tie.After-family-from) (f : From) (e : c.family-from.result ≡ f) where
+  room : let a = c.args in a.at + length (line f) ≤ length a.out.now
   room =
       let s = c.before.before in
-      subst (λ (g : From). s.args.at + length (line g) ≤ length s.args.out.now) (sym c.family.ensures ∙ e) s.requires
+      subst (λ (g : From). s.args.at + length (line g) ≤ length s.args.out.now) (sym c.family-from.ensures ∙ e) s.requires
 
-  text : line f ≡ line (family_of c.before.before.args.code)
-  text = ap line (sym e ∙ c.family.ensures)
+  text : line f ≡ line (family_of c.args.code)
+  text = ap line (sym e ∙ c.family-from.ensures)
 
 put-requires : tie.Need-put-requires
-put-requires c κs = let t = c.before.before in room t.before.before Query t.enum_told.given.1
+put-requires c κs = let t = c.before.before in room t.before.before Query t.enum_told-1.given.1
 
-put-requires-2 : tie.Need-put-requires-2
-put-requires-2 c κs = let t = c.before.before in room t.before.before Table t.enum-told2.given.1
+put-requires-in-Table : tie.Need-put-requires-in-Table
+put-requires-in-Table c κs = let t = c.before.before in room t.before.before Table t.enum_told-in-Table-1.given.1
 
-put-requires-3 : tie.Need-put-requires-3
-put-requires-3 c κs = let t = c.before.before in room t.before.before Tree t.enum-told3.given.1
+put-requires-in-Tree : tie.Need-put-requires-in-Tree
+put-requires-in-Tree c κs = let t = c.before.before in room t.before.before Tree t.enum_told-in-Tree-1.given.1
 
-put-requires-4 : tie.Need-put-requires-4
-put-requires-4 c κs = let t = c.before.before in room t.before.before Search t.enum-told4.given.1
+put-requires-in-Search : tie.Need-put-requires-in-Search
+put-requires-in-Search c κs = let t = c.before.before in room t.before.before Search t.enum_told-in-Search-1.given.1
 
-put-requires-5 : tie.Need-put-requires-5
-put-requires-5 c κs = let t = c.before.before in room t.before.before Room t.enum-told5.given.1
+put-requires-in-Room : tie.Need-put-requires-in-Room
+put-requires-in-Room c κs = let t = c.before.before in room t.before.before Room t.enum_told-in-Room-1.given.1
 
-put-requires-6 : tie.Need-put-requires-6
-put-requires-6 c κs = let t = c.before.before in room t.before.before Sheet t.enum-told6.given.1
+put-requires-in-Sheet : tie.Need-put-requires-in-Sheet
+put-requires-in-Sheet c κs = let t = c.before.before in room t.before.before Sheet t.enum_told-in-Sheet-1.given.1
 
-put-requires-7 : tie.Need-put-requires-7
-put-requires-7 c κs = let t = c.before.before in room t.before.before NoRefusal t.enum-told7.given.1
+put-requires-in-NoRefusal : tie.Need-put-requires-in-NoRefusal
+put-requires-in-NoRefusal c κs = let t = c.before.before in room t.before.before NoRefusal t.enum_told-in-NoRefusal-1.given.1
 
-returns : tie.Need-returns
-returns c = let t = c.before.before.before.before.before in puts_text (text t.before.before Query t.enum_told.given.1) c.before.before.put.ensures
+returns-in-Query : tie.Need-returns-in-Query
+returns-in-Query c = let t = c.before.before.before.before in puts_text (text t.before.before.before Query t.enum_told-1.given.1) c.put.ensures
 
-returns-2 : tie.Need-returns-2
-returns-2 c = let t = c.before.before.before.before.before in puts_text (text t.before.before Table t.enum-told2.given.1) c.before.before.put2.ensures
+returns-in-Table : tie.Need-returns-in-Table
+returns-in-Table c = let t = c.before.before.before.before in puts_text (text t.before.before.before Table t.enum_told-in-Table-1.given.1) c.put-in-Table.ensures
 
-returns-3 : tie.Need-returns-3
-returns-3 c = let t = c.before.before.before.before.before in puts_text (text t.before.before Tree t.enum-told3.given.1) c.before.before.put3.ensures
+returns-in-Tree : tie.Need-returns-in-Tree
+returns-in-Tree c = let t = c.before.before.before.before in puts_text (text t.before.before.before Tree t.enum_told-in-Tree-1.given.1) c.put-in-Tree.ensures
 
-returns-4 : tie.Need-returns-4
-returns-4 c = let t = c.before.before.before.before.before in puts_text (text t.before.before Search t.enum-told4.given.1) c.before.before.put4.ensures
+returns-in-Search : tie.Need-returns-in-Search
+returns-in-Search c = let t = c.before.before.before.before in puts_text (text t.before.before.before Search t.enum_told-in-Search-1.given.1) c.put-in-Search.ensures
 
-returns-5 : tie.Need-returns-5
-returns-5 c = let t = c.before.before.before.before.before in puts_text (text t.before.before Room t.enum-told5.given.1) c.before.before.put5.ensures
+returns-in-Room : tie.Need-returns-in-Room
+returns-in-Room c = let t = c.before.before.before.before in puts_text (text t.before.before.before Room t.enum_told-in-Room-1.given.1) c.put-in-Room.ensures
 
-returns-6 : tie.Need-returns-6
-returns-6 c = let t = c.before.before.before.before.before in puts_text (text t.before.before Sheet t.enum-told6.given.1) c.before.before.put6.ensures
+returns-in-Sheet : tie.Need-returns-in-Sheet
+returns-in-Sheet c = let t = c.before.before.before.before in puts_text (text t.before.before.before Sheet t.enum_told-in-Sheet-1.given.1) c.put-in-Sheet.ensures
 
-returns-7 : tie.Need-returns-7
-returns-7 c = let t = c.before.before.before.before.before in puts_text (text t.before.before NoRefusal t.enum-told7.given.1) c.before.before.put7.ensures
+returns-in-NoRefusal : tie.Need-returns-in-NoRefusal
+returns-in-NoRefusal c = let t = c.before.before.before.before in puts_text (text t.before.before.before NoRefusal t.enum_told-in-NoRefusal-1.given.1) c.put-in-NoRefusal.ensures
 
 pub put_family_spec : {M : Type 1} → statement M
 put_family_spec =
     tie.close
-    (tie.spec
-    (λ c κs. search rules)
-    (λ c. search rules)
-    (λ c. search rules)
-    put-requires
-    (λ c. search rules)
-    (λ c. search rules)
-    put-requires-2
-    (λ c. search rules)
-    (λ c. search rules)
-    put-requires-3
-    (λ c. search rules)
-    (λ c. search rules)
-    put-requires-4
-    (λ c. search rules)
-    (λ c. search rules)
-    put-requires-5
-    (λ c. search rules)
-    (λ c. search rules)
-    put-requires-6
-    (λ c. search rules)
-    (λ c. search rules)
-    put-requires-7
-    (λ c. search rules)
-    returns
-    (λ c. search rules)
-    returns-2
-    (λ c. search rules)
-    returns-3
-    (λ c. search rules)
-    returns-4
-    (λ c. search rules)
-    returns-5
-    (λ c. search rules)
-    returns-6
-    (λ c. search rules)
-    returns-7)
+    (tie.spec (λ c κs. search rules) (λ c. search rules) put-requires (λ c. search rules) put-requires-in-Table (λ c. search rules) put-requires-in-Tree (λ c. search rules) put-requires-in-Search (λ c. search rules) put-requires-in-Room (λ c. search rules) put-requires-in-Sheet (λ c. search rules) put-requires-in-NoRefusal (λ c. search rules) returns-in-Query (λ c. search rules) returns-in-Table (λ c. search rules) returns-in-Tree (λ c. search rules) returns-in-Search (λ c. search rules) returns-in-Room (λ c. search rules) returns-in-Sheet (λ c. search rules) returns-in-NoRefusal)

@@ -20,74 +20,74 @@ use Rattle.search.proofs.search_over.Statement.{statement}
 use Rattle.search.proofs.search_over.Tie as tie
 
 -- where the want was looked at, and where the root was
-abbrev first : tie.After-want-fault → tie.Start
+abbrev first : tie.After-want_fault-w → tie.Start
 first f = f.before.before.before.before.before.before.before
 
-abbrev places : tie.After-want-fault → Table
+abbrev places : tie.After-want_fault-w → Table
 places f = let s = first f in table s.args.x.now s.args.y.now s.args.kit.now
 
-abbrev over : tie.After-want-fault → Tree
+abbrev over : tie.After-want_fault-w → Tree
 over f =
     let s = first f in
     tree (shape s.args.nodes s.args.listed s.args.level.now s.args.start.now s.args.count.now s.args.entries.now)
     (sides s.args.x_lo.now s.args.x_hi.now s.args.y_lo.now s.args.y_hi.now) s.args.kits.now
 
-sound : (c : tie.Else1) → let f = c.before.before in Sound (places f) (over f) (first f).args.want
-sound c = let f = c.before.before in sound_want (places f) (over f) (first f).args.want f.want-fault.ensures c.if1.false (first f).requires
+sound : (c : tie.Else-w-ne0) → let f = c.before.before in Sound (places f) (over f) (first f).args.want
+sound c = let f = c.before.before in sound_want (places f) (over f) (first f).args.want f.want_fault-w.ensures c.if-w-ne0.false (first f).requires
 
-root : (c : tie.After-root-holds) → let f = c.before.before.before in c.root-holds.result ≡ begins (places f) (over f) (kinds (first f).args.want)
-root c = let f = c.before.before.before in c.root-holds.ensures (places f) (over f).shape (over f).sides refl
+root : (c : tie.After-root_holds) → let f = c.before.before.before in c.root_holds.result ≡ begins (places f) (over f) (kinds (first f).args.want)
+root c = let f = c.before.before.before in c.root_holds.ensures (places f) (over f).shape (over f).sides refl
 
-want-fault-requires : tie.Need-want-fault-requires
-want-fault-requires c κs = search rules
+want_fault-w-requires : tie.Need-want_fault-w-requires
+want_fault-w-requires c κs = search rules
 
 refuse-requires : tie.Need-refuse-requires
 refuse-requires c κs = search rules
 
-returns : tie.Need-returns
-returns c = let f = c.before.before.before in c.refuse.ensures ∙ searched_want (places f) (over f) (first f).args.want (first f).args.allowance f.want-fault.ensures c.before.if1.true
+returns-then-w-ne0 : tie.Need-returns-then-w-ne0
+returns-then-w-ne0 c = let f = c.before.before.before in c.refuse.ensures ∙ searched_want (places f) (over f) (first f).args.want (first f).args.allowance f.want_fault-w.ensures c.if-w-ne0.true
 
-root-holds-requires : tie.Need-root-holds-requires
-root-holds-requires c κs = (meets (first c.before.before).requires).counted.room.kits
+root_holds-requires : tie.Need-root_holds-requires
+root_holds-requires c κs = (meets (first c.before.before).requires).counted.room.kits
 
-refuse-requires-2 : tie.Need-refuse-requires-2
-refuse-requires-2 c κs = search rules
+refuse-requires-then-not-root_holds : tie.Need-refuse-requires-then-not-root_holds
+refuse-requires-then-not-root_holds c κs = search rules
 
-returns-2 : tie.Need-returns-2
-returns-2 c =
-    let r : tie.After-root-holds = c.before.before in
+returns-then-not-root_holds : tie.Need-returns-then-not-root_holds
+returns-then-not-root_holds c =
+    let r : tie.After-root_holds = c.before.before in
     let f = r.before.before.before in
-    c.refuse2.ensures ∙ searched_none (places f) (over f) (first f).args.want (first f).args.allowance (sound r.before) (sym (root r) ∙ not-true _ c.before.if2.true)
+    c.refuse-then-not-root_holds.ensures ∙ searched_none (places f) (over f) (first f).args.want (first f).args.allowance (sound r.before) (sym (root r) ∙ c.if-not-root_holds.true)
 
-list-kinds-requires : tie.Need-list-kinds-requires
-list-kinds-requires c κs = (sound c.before.before).few
+list_kinds-l-requires : tie.Need-list_kinds-l-requires
+list_kinds-l-requires c κs = (sound c.before.before).few
 
 -- the kinds that the code lists
-wanted : (l : tie.After-list-kinds) → take l.list-kinds.result.count l.list-kinds.result.kinds ≡ kinds (first l.before.before.before.before.before).args.want
-wanted l = ap (λ (k : Listed). take k.count k.kinds) l.list-kinds.ensures ∙ take_padded (kinds (first l.before.before.before.before.before).args.want)
+wanted : (l : tie.After-list_kinds-l) → take l.list_kinds-l.result.count l.list_kinds-l.result.kinds ≡ kinds (first l.before.before.before.before.before).args.want
+wanted l = ap (λ (k : Listed). take k.count k.kinds) l.list_kinds-l.ensures ∙ take_padded (kinds (first l.before.before.before.before.before).args.want)
 
-begun : (l : tie.After-list-kinds) → let f = l.before.before.before.before.before in begins (places f) (over f) (kinds (first f).args.want) ≡ true
-begun l = sym (root l.before.before) ∙ not-false _ l.before.if2.false
+begun : (l : tie.After-list_kinds-l) → let f = l.before.before.before.before.before in begins (places f) (over f) (kinds (first f).args.want) ≡ true
+begun l = sym (root l.before.before) ∙ l.if-not-root_holds.false
 
-walk-all-requires : tie.Need-walk-all-requires
-walk-all-requires c κs =
-    let l : tie.After-list-kinds = c.before in
+walk_all-s-requires : tie.Need-walk_all-s-requires
+walk_all-s-requires c κs =
+    let l : tie.After-list_kinds-l = c.before in
     let f = l.before.before.before.before.before in
     let s = sound l.before.before.before in
-    let few : Few l.list-kinds.result.count l.list-kinds.result.kinds = subst (λ (k : Listed). Few k.count k.kinds) (sym l.list-kinds.ensures) (few_of (first f).args.want s.some s.few) in
+    let few : Few l.list_kinds-l.result.count l.list_kinds-l.result.kinds = subst (λ (k : Listed). Few k.count k.kinds) (sym l.list_kinds-l.ensures) (few_of (first f).args.want s.some s.few) in
     (s.passes, (few, subst (λ (k : List ℕ). begins (places f) (over f) k ≡ true) (sym (wanted l)) (begun l)))
 
-outcome-of-requires : tie.Need-outcome-of-requires
-outcome-of-requires c κs = search rules
+outcome_of-requires : tie.Need-outcome_of-requires
+outcome_of-requires c κs = search rules
 
-returns-3 : tie.Need-returns-3
-returns-3 c =
-    let w : tie.After-walk-all = c.before in
-    let l : tie.After-list-kinds = w.before.before in
+returns : tie.Need-returns
+returns c =
+    let w : tie.After-walk_all-s = c.before in
+    let l : tie.After-list_kinds-l = w.before.before in
     let f = l.before.before.before.before.before in
-    c.outcome-of.ensures
-    ∙ ap outcome (w.walk-all.ensures ∙ ap (λ (k : List ℕ). state_of (places f) (stands_at (places f) (over f) k (first f).args.allowance)) (wanted l))
+    c.outcome_of.ensures
+    ∙ ap outcome (w.walk_all-s.ensures ∙ ap (λ (k : List ℕ). state_of (places f) (stands_at (places f) (over f) k (first f).args.allowance)) (wanted l))
     ∙ searched_walk (places f) (over f) (first f).args.want (first f).args.allowance (sound l.before.before.before) (begun l)
 
 pub search_over_spec : {M : Type 1} → statement M
-search_over_spec = tie.close (tie.spec want-fault-requires refuse-requires returns root-holds-requires refuse-requires-2 returns-2 list-kinds-requires walk-all-requires outcome-of-requires returns-3)
+search_over_spec = tie.close (tie.spec want_fault-w-requires refuse-requires returns-then-w-ne0 root_holds-requires refuse-requires-then-not-root_holds returns-then-not-root_holds list_kinds-l-requires walk_all-s-requires outcome_of-requires returns)

@@ -14,20 +14,13 @@ below : (m : ℕ) → mag (negsuc 0 -ℤ pos m) ≤ m
 below zero = omega arith
 below (suc m) = omega arith
 
-sub-result-2 : tie.Need-overflow-sub-result-2
-sub-result-2 c =
-    let m = 18446744073709551615 - c.before.before.args.n in
+overflow_sub-result-2 : tie.Need-overflow_sub-result-2
+overflow_sub-result-2 c =
+    let m = 18446744073709551615 - c.args.n in
     let h : m < 2147483648 = omega arith in
     rw (to_z_pos w32 {n = m} (omega arith)) (record { sfits = omega (arith, below m) })
 
 pub signed_of_spec : {M : Type 1} → statement M
 signed_of_spec =
     tie.close
-    (tie.spec
-    (λ c. search rules)
-    (λ c. search rules)
-    (λ c. search rules)
-    (λ c. search rules)
-    (λ c. search rules)
-    sub-result-2
-    (λ c. search rules))
+    (tie.spec (λ c. search rules) (λ c. search rules) (λ c. search rules) (λ c. search rules) (λ c. search rules) overflow_sub-result-2 (λ c. search rules))

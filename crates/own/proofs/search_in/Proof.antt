@@ -14,7 +14,7 @@ use Rattle.own.proofs.search_in.Tie as tie
 
 -- where the tree was built
 abbrev Made : Type 0
-Made = tie.After-build
+Made = tie.After-build-b
 
 abbrev first : Made → tie.Start
 first b = b.before.before.before.before.before.before.before.before.before.before.before.before.before.before.before.before
@@ -31,137 +31,107 @@ before b =
 
 abbrev after : Made → Tree
 after b =
-    let l = b.build.last.1.1.1 in
-    tree (shape b.build.result.nodes b.build.result.listed l.0 l.1.0 l.1.1.0 l.1.1.1.1.1.1.1.1.0)
+    let l = b.build-b.new.start.1.1 in
+    tree (shape b.build-b.result.nodes b.build-b.result.listed l.0 l.1.0 l.1.1.0 l.1.1.1.1.1.1.1.1.0)
     (sides l.1.1.1.0 l.1.1.1.1.0 l.1.1.1.1.1.0 l.1.1.1.1.1.1.0) l.1.1.1.1.1.1.1.0
 
-room : (b : Made) → Room b.build.result.nodes b.build.result.listed (lengths (after b))
-room b = made_room (first b).requires.0 (before b) (first b).requires.1 b.build.ensures.0 b.build.ensures.1
+room : (b : Made) → Room b.build-b.result.nodes b.build-b.result.listed (lengths (after b))
+room b = made_room (first b).requires.0 (before b) (first b).requires.1 b.build-b.ensures.0 b.build-b.ensures.1
 
 is_built : (b : Made) → used (after b) ≡ built (places b)
-is_built b = used_built (first b).requires.0 (before b) (first b).requires.1 b.build.ensures.0 b.build.ensures.1
+is_built b = used_built (first b).requires.0 (before b) (first b).requires.1 b.build-b.ensures.0 b.build-b.ensures.1
 
-build-requires : tie.Need-build-requires
-build-requires c κs = search rules
+build-b-requires : tie.Need-build-b-requires
+build-b-requires c κs = search rules
 
-slice-reshare-prefix-search-over : tie.Need-slice-reshare-prefix-search-over
-slice-reshare-prefix-search-over c = (room c.before.before.before.before.before.before.before.before.before.before.before.before.before.before).level
+slice_bounds-search_over-end : tie.Need-slice_bounds-search_over-end
+slice_bounds-search_over-end c = (room c.before.before.before.before.before.before.before.before.before.before.before.before.before.before).level
 
-slice-aggregate-search-over : tie.Need-slice-aggregate-search-over
-slice-aggregate-search-over c = sym (length-take-le _ _ (room c.before.before.before.before.before.before.before.before.before.before.before.before.before.before.before).level)
+slice_bounds-search_over-end-2 : tie.Need-slice_bounds-search_over-end-2
+slice_bounds-search_over-end-2 c = sym (length-take-le _ _ (room c.before.before.before.before.before.before.before.before.before.before.before.before.before.before.before).level)
 
-slice-reshare-prefix-search-over-2 : tie.Need-slice-reshare-prefix-search-over-2
-slice-reshare-prefix-search-over-2 c = (room c.before.before.before.before.before.before.before.before.before.before.before.before.before.before.before).start
+slice_bounds-search_over-end-3 : tie.Need-slice_bounds-search_over-end-3
+slice_bounds-search_over-end-3 c = (room c.before.before.before.before.before.before.before.before.before.before.before.before.before.before.before).start
 
-slice-aggregate-search-over-2 : tie.Need-slice-aggregate-search-over-2
-slice-aggregate-search-over-2 c = sym (length-take-le _ _ (room c.before.before.before.before.before.before.before.before.before.before.before.before.before.before.before.before).start)
+slice_bounds-search_over-end-4 : tie.Need-slice_bounds-search_over-end-4
+slice_bounds-search_over-end-4 c = sym (length-take-le _ _ (room c.before.before.before.before.before.before.before.before.before.before.before.before.before.before.before.before).start)
 
-slice-reshare-prefix-search-over-3 : tie.Need-slice-reshare-prefix-search-over-3
-slice-reshare-prefix-search-over-3 c = (room c.before.before.before.before.before.before.before.before.before.before.before.before.before.before.before.before).count
+slice_bounds-search_over-end-5 : tie.Need-slice_bounds-search_over-end-5
+slice_bounds-search_over-end-5 c = (room c.before.before.before.before.before.before.before.before.before.before.before.before.before.before.before.before).count
 
-slice-aggregate-search-over-3 : tie.Need-slice-aggregate-search-over-3
-slice-aggregate-search-over-3 c = sym (length-take-le _ _ (room c.before.before.before.before.before.before.before.before.before.before.before.before.before.before.before.before.before).count)
+slice_bounds-search_over-end-6 : tie.Need-slice_bounds-search_over-end-6
+slice_bounds-search_over-end-6 c = sym (length-take-le _ _ (room c.before.before.before.before.before.before.before.before.before.before.before.before.before.before.before.before.before).count)
 
-slice-reshare-prefix-search-over-4 : tie.Need-slice-reshare-prefix-search-over-4
-slice-reshare-prefix-search-over-4 c = (room c.before.before.before.before.before.before.before.before.before.before.before.before.before.before.before.before.before).x_lo
+slice_bounds-search_over-end-7 : tie.Need-slice_bounds-search_over-end-7
+slice_bounds-search_over-end-7 c = (room c.before.before.before.before.before.before.before.before.before.before.before.before.before.before.before.before.before).x_lo
 
-slice-aggregate-search-over-4 : tie.Need-slice-aggregate-search-over-4
-slice-aggregate-search-over-4 c = sym (length-take-le _ _ (room c.before.before.before.before.before.before.before.before.before.before.before.before.before.before.before.before.before.before).x_lo)
+slice_bounds-search_over-end-8 : tie.Need-slice_bounds-search_over-end-8
+slice_bounds-search_over-end-8 c = sym (length-take-le _ _ (room c.before.before.before.before.before.before.before.before.before.before.before.before.before.before.before.before.before.before).x_lo)
 
-slice-reshare-prefix-search-over-5 : tie.Need-slice-reshare-prefix-search-over-5
-slice-reshare-prefix-search-over-5 c = (room c.before.before.before.before.before.before.before.before.before.before.before.before.before.before.before.before.before.before).x_hi
+slice_bounds-search_over-end-9 : tie.Need-slice_bounds-search_over-end-9
+slice_bounds-search_over-end-9 c = (room c.before.before.before.before.before.before.before.before.before.before.before.before.before.before.before.before.before.before).x_hi
 
-slice-aggregate-search-over-5 : tie.Need-slice-aggregate-search-over-5
-slice-aggregate-search-over-5 c = sym (length-take-le _ _ (room c.before.before.before.before.before.before.before.before.before.before.before.before.before.before.before.before.before.before.before).x_hi)
+slice_bounds-search_over-end-10 : tie.Need-slice_bounds-search_over-end-10
+slice_bounds-search_over-end-10 c = sym (length-take-le _ _ (room c.before.before.before.before.before.before.before.before.before.before.before.before.before.before.before.before.before.before.before).x_hi)
 
-slice-reshare-prefix-search-over-6 : tie.Need-slice-reshare-prefix-search-over-6
-slice-reshare-prefix-search-over-6 c = (room c.before.before.before.before.before.before.before.before.before.before.before.before.before.before.before.before.before.before.before).y_lo
+slice_bounds-search_over-end-11 : tie.Need-slice_bounds-search_over-end-11
+slice_bounds-search_over-end-11 c = (room c.before.before.before.before.before.before.before.before.before.before.before.before.before.before.before.before.before.before.before).y_lo
 
-slice-aggregate-search-over-6 : tie.Need-slice-aggregate-search-over-6
-slice-aggregate-search-over-6 c = sym (length-take-le _ _ (room c.before.before.before.before.before.before.before.before.before.before.before.before.before.before.before.before.before.before.before.before).y_lo)
+slice_bounds-search_over-end-12 : tie.Need-slice_bounds-search_over-end-12
+slice_bounds-search_over-end-12 c = sym (length-take-le _ _ (room c.before.before.before.before.before.before.before.before.before.before.before.before.before.before.before.before.before.before.before.before).y_lo)
 
-slice-reshare-prefix-search-over-7 : tie.Need-slice-reshare-prefix-search-over-7
-slice-reshare-prefix-search-over-7 c = (room c.before.before.before.before.before.before.before.before.before.before.before.before.before.before.before.before.before.before.before.before).y_hi
+slice_bounds-search_over-end-13 : tie.Need-slice_bounds-search_over-end-13
+slice_bounds-search_over-end-13 c = (room c.before.before.before.before.before.before.before.before.before.before.before.before.before.before.before.before.before.before.before.before).y_hi
 
-slice-aggregate-search-over-7 : tie.Need-slice-aggregate-search-over-7
-slice-aggregate-search-over-7 c = sym (length-take-le _ _ (room c.before.before.before.before.before.before.before.before.before.before.before.before.before.before.before.before.before.before.before.before.before).y_hi)
+slice_bounds-search_over-end-14 : tie.Need-slice_bounds-search_over-end-14
+slice_bounds-search_over-end-14 c = sym (length-take-le _ _ (room c.before.before.before.before.before.before.before.before.before.before.before.before.before.before.before.before.before.before.before.before.before).y_hi)
 
-slice-reshare-prefix-search-over-8 : tie.Need-slice-reshare-prefix-search-over-8
-slice-reshare-prefix-search-over-8 c = (room c.before.before.before.before.before.before.before.before.before.before.before.before.before.before.before.before.before.before.before.before.before).kits
+slice_bounds-search_over-end-15 : tie.Need-slice_bounds-search_over-end-15
+slice_bounds-search_over-end-15 c = (room c.before.before.before.before.before.before.before.before.before.before.before.before.before.before.before.before.before.before.before.before.before).kits
 
-slice-aggregate-search-over-8 : tie.Need-slice-aggregate-search-over-8
-slice-aggregate-search-over-8 c = sym (length-take-le _ _ (room c.before.before.before.before.before.before.before.before.before.before.before.before.before.before.before.before.before.before.before.before.before.before).kits)
+slice_bounds-search_over-end-16 : tie.Need-slice_bounds-search_over-end-16
+slice_bounds-search_over-end-16 c = sym (length-take-le _ _ (room c.before.before.before.before.before.before.before.before.before.before.before.before.before.before.before.before.before.before.before.before.before.before).kits)
 
-slice-reshare-prefix-search-over-9 : tie.Need-slice-reshare-prefix-search-over-9
-slice-reshare-prefix-search-over-9 c = (room c.before.before.before.before.before.before.before.before.before.before.before.before.before.before.before.before.before.before.before.before.before.before).entries
+slice_bounds-search_over-end-17 : tie.Need-slice_bounds-search_over-end-17
+slice_bounds-search_over-end-17 c = (room c.before.before.before.before.before.before.before.before.before.before.before.before.before.before.before.before.before.before.before.before.before.before).entries
 
-slice-aggregate-search-over-9 : tie.Need-slice-aggregate-search-over-9
-slice-aggregate-search-over-9 c = sym (length-take-le _ _ (room c.before.before.before.before.before.before.before.before.before.before.before.before.before.before.before.before.before.before.before.before.before.before.before).entries)
+slice_bounds-search_over-end-18 : tie.Need-slice_bounds-search_over-end-18
+slice_bounds-search_over-end-18 c = sym (length-take-le _ _ (room c.before.before.before.before.before.before.before.before.before.before.before.before.before.before.before.before.before.before.before.before.before.before.before).entries)
 
-search-over-requires : tie.Need-search-over-requires
-search-over-requires c κs = let b : Made = c.before.before.before.before.before.before.before.before.before.before.before.before.before.before.before.before.before.before.before.before.before.before.before in subst (Passes (places b)) (sym (is_built b)) (built_sound (places b) (first b).requires.0)
+search_over-requires : tie.Need-search_over-requires
+search_over-requires c κs = let b : Made = c.before.before.before.before.before.before.before.before.before.before.before.before.before.before in subst (Passes (places b)) (sym (is_built b)) (built_sound (places b) (first b).requires.0)
 
-same_length : tie.Need-same-length
-same_length c = search rules
+shape_of-level : tie.Need-shape_of-level
+shape_of-level c = search rules
 
-same-length-2 : tie.Need-same-length-2
-same-length-2 c = search rules
+shape_of-start : tie.Need-shape_of-start
+shape_of-start c = search rules
 
-same-length-3 : tie.Need-same-length-3
-same-length-3 c = search rules
+shape_of-count : tie.Need-shape_of-count
+shape_of-count c = search rules
 
-same-length-4 : tie.Need-same-length-4
-same-length-4 c = search rules
+shape_of-x_lo : tie.Need-shape_of-x_lo
+shape_of-x_lo c = search rules
 
-same-length-5 : tie.Need-same-length-5
-same-length-5 c = search rules
+shape_of-x_hi : tie.Need-shape_of-x_hi
+shape_of-x_hi c = search rules
 
-same-length-6 : tie.Need-same-length-6
-same-length-6 c = search rules
+shape_of-y_lo : tie.Need-shape_of-y_lo
+shape_of-y_lo c = search rules
 
-same-length-7 : tie.Need-same-length-7
-same-length-7 c = search rules
+shape_of-y_hi : tie.Need-shape_of-y_hi
+shape_of-y_hi c = search rules
 
-same-length-8 : tie.Need-same-length-8
-same-length-8 c = search rules
+shape_of-kits : tie.Need-shape_of-kits
+shape_of-kits c = search rules
 
-same-length-9 : tie.Need-same-length-9
-same-length-9 c = search rules
+shape_of-entries : tie.Need-shape_of-entries
+shape_of-entries c = search rules
 
 returns : tie.Need-returns
-returns c = let b : Made = c.before.before.before.before.before.before.before.before.before.before.before.before.before.before.before.before.before.before.before.before.before.before.before.before in c.search-over.ensures ∙ ap (λ (w : Tree). searched (places b) w (first b).args.want (first b).args.allowance) (is_built b)
+returns c = let b : Made = c.before.before.before.before.before.before.before.before.before.before.before.before.before.before.before in c.search_over.ensures ∙ ap (λ (w : Tree). searched (places b) w (first b).args.want (first b).args.allowance) (is_built b)
 
 pub search_in_spec : {M : Type 1} → statement M
 search_in_spec =
     tie.close
-    (tie.spec
-    build-requires
-    slice-reshare-prefix-search-over
-    slice-aggregate-search-over
-    slice-reshare-prefix-search-over-2
-    slice-aggregate-search-over-2
-    slice-reshare-prefix-search-over-3
-    slice-aggregate-search-over-3
-    slice-reshare-prefix-search-over-4
-    slice-aggregate-search-over-4
-    slice-reshare-prefix-search-over-5
-    slice-aggregate-search-over-5
-    slice-reshare-prefix-search-over-6
-    slice-aggregate-search-over-6
-    slice-reshare-prefix-search-over-7
-    slice-aggregate-search-over-7
-    slice-reshare-prefix-search-over-8
-    slice-aggregate-search-over-8
-    slice-reshare-prefix-search-over-9
-    slice-aggregate-search-over-9
-    search-over-requires
-    same_length
-    same-length-2
-    same-length-3
-    same-length-4
-    same-length-5
-    same-length-6
-    same-length-7
-    same-length-8
-    same-length-9
-    returns)
+    (tie.spec build-b-requires slice_bounds-search_over-end slice_bounds-search_over-end-2 slice_bounds-search_over-end-3 slice_bounds-search_over-end-4 slice_bounds-search_over-end-5 slice_bounds-search_over-end-6 slice_bounds-search_over-end-7 slice_bounds-search_over-end-8 slice_bounds-search_over-end-9 slice_bounds-search_over-end-10 slice_bounds-search_over-end-11 slice_bounds-search_over-end-12 slice_bounds-search_over-end-13 slice_bounds-search_over-end-14 slice_bounds-search_over-end-15 slice_bounds-search_over-end-16 slice_bounds-search_over-end-17 slice_bounds-search_over-end-18 search_over-requires shape_of-level shape_of-start shape_of-count shape_of-x_lo shape_of-x_hi shape_of-y_lo shape_of-y_hi shape_of-kits shape_of-entries returns)

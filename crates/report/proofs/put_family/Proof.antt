@@ -26,46 +26,46 @@ module _ (c : tie.After-family-from) (f : From) (e : c.family-from.result ≡ f)
   text = ap line (sym e ∙ c.family-from.ensures)
 
 put-requires : tie.Need-put-requires
-put-requires c κs = let t = c.before.before in room t.before.before Query t.enum_told-1.given.1
+put-requires c κs = let t = c.before.before in room t.before.before Query t.in-Query.is
 
 put-requires-in-Table : tie.Need-put-requires-in-Table
-put-requires-in-Table c κs = let t = c.before.before in room t.before.before Table t.enum_told-in-Table-1.given.1
+put-requires-in-Table c κs = let t = c.before.before in room t.before.before Table t.in-Table.is
 
 put-requires-in-Tree : tie.Need-put-requires-in-Tree
-put-requires-in-Tree c κs = let t = c.before.before in room t.before.before Tree t.enum_told-in-Tree-1.given.1
+put-requires-in-Tree c κs = let t = c.before.before in room t.before.before Tree t.in-Tree.is
 
 put-requires-in-Search : tie.Need-put-requires-in-Search
-put-requires-in-Search c κs = let t = c.before.before in room t.before.before Search t.enum_told-in-Search-1.given.1
+put-requires-in-Search c κs = let t = c.before.before in room t.before.before Search t.in-Search.is
 
 put-requires-in-Room : tie.Need-put-requires-in-Room
-put-requires-in-Room c κs = let t = c.before.before in room t.before.before Room t.enum_told-in-Room-1.given.1
+put-requires-in-Room c κs = let t = c.before.before in room t.before.before Room t.in-Room.is
 
 put-requires-in-Sheet : tie.Need-put-requires-in-Sheet
-put-requires-in-Sheet c κs = let t = c.before.before in room t.before.before Sheet t.enum_told-in-Sheet-1.given.1
+put-requires-in-Sheet c κs = let t = c.before.before in room t.before.before Sheet t.in-Sheet.is
 
 put-requires-in-NoRefusal : tie.Need-put-requires-in-NoRefusal
-put-requires-in-NoRefusal c κs = let t = c.before.before in room t.before.before NoRefusal t.enum_told-in-NoRefusal-1.given.1
+put-requires-in-NoRefusal c κs = let t = c.before.before in room t.before.before NoRefusal t.in-NoRefusal.is
 
 returns-in-Query : tie.Need-returns-in-Query
-returns-in-Query c = let t = c.before.before.before.before in puts_text (text t.before.before.before Query t.enum_told-1.given.1) c.put.ensures
+returns-in-Query c = let t = c.before.before.before.before in puts_text (text t.before.before.before Query t.in-Query.is) c.put.ensures
 
 returns-in-Table : tie.Need-returns-in-Table
-returns-in-Table c = let t = c.before.before.before.before in puts_text (text t.before.before.before Table t.enum_told-in-Table-1.given.1) c.put-in-Table.ensures
+returns-in-Table c = let t = c.before.before.before.before in puts_text (text t.before.before.before Table t.in-Table.is) c.put-in-Table.ensures
 
 returns-in-Tree : tie.Need-returns-in-Tree
-returns-in-Tree c = let t = c.before.before.before.before in puts_text (text t.before.before.before Tree t.enum_told-in-Tree-1.given.1) c.put-in-Tree.ensures
+returns-in-Tree c = let t = c.before.before.before.before in puts_text (text t.before.before.before Tree t.in-Tree.is) c.put-in-Tree.ensures
 
 returns-in-Search : tie.Need-returns-in-Search
-returns-in-Search c = let t = c.before.before.before.before in puts_text (text t.before.before.before Search t.enum_told-in-Search-1.given.1) c.put-in-Search.ensures
+returns-in-Search c = let t = c.before.before.before.before in puts_text (text t.before.before.before Search t.in-Search.is) c.put-in-Search.ensures
 
 returns-in-Room : tie.Need-returns-in-Room
-returns-in-Room c = let t = c.before.before.before.before in puts_text (text t.before.before.before Room t.enum_told-in-Room-1.given.1) c.put-in-Room.ensures
+returns-in-Room c = let t = c.before.before.before.before in puts_text (text t.before.before.before Room t.in-Room.is) c.put-in-Room.ensures
 
 returns-in-Sheet : tie.Need-returns-in-Sheet
-returns-in-Sheet c = let t = c.before.before.before.before in puts_text (text t.before.before.before Sheet t.enum_told-in-Sheet-1.given.1) c.put-in-Sheet.ensures
+returns-in-Sheet c = let t = c.before.before.before.before in puts_text (text t.before.before.before Sheet t.in-Sheet.is) c.put-in-Sheet.ensures
 
 returns-in-NoRefusal : tie.Need-returns-in-NoRefusal
-returns-in-NoRefusal c = let t = c.before.before.before.before in puts_text (text t.before.before.before NoRefusal t.enum_told-in-NoRefusal-1.given.1) c.put-in-NoRefusal.ensures
+returns-in-NoRefusal c = let t = c.before.before.before.before in puts_text (text t.before.before.before NoRefusal t.in-NoRefusal.is) c.put-in-NoRefusal.ensures
 
 pub put_family_spec : {M : Type 1} → statement M
 put_family_spec =

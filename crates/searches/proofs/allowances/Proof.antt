@@ -5,39 +5,31 @@ use borrow.Author.Rules.{rules}
 use Rattle.searches.proofs.allowances.Statement.{statement}
 use Rattle.searches.proofs.allowances.Tie as tie
 
-abbrev invariant-loop : tie.invariant-loop
-invariant-loop allowance₀ allowance = allowance ≤ 21
+abbrev invariant-loop-allowance : tie.invariant-loop-allowance
+invariant-loop-allowance allowance₀ allowance = allowance ≤ 21
 
-abbrev decreases-loop : tie.decreases-loop
-decreases-loop allowance₀ allowance = 21 - allowance
+abbrev decreases-loop-allowance : tie.decreases-loop-allowance
+decreases-loop-allowance allowance₀ allowance = 21 - allowance
 
-loop-holds : tie.Need-loop-init invariant-loop decreases-loop
-loop-holds c = search rules
+loop-allowance-init : tie.Need-loop-allowance-init invariant-loop-allowance decreases-loop-allowance
+loop-allowance-init c = search rules
 
-over-chain-requires : tie.Need-over-chain-requires invariant-loop decreases-loop
-over-chain-requires c κs = search rules
+over_chain-requires : tie.Need-over_chain-requires invariant-loop-allowance decreases-loop-allowance
+over_chain-requires c κs = search rules
 
-add-allowance : tie.Need-overflow-add-allowance invariant-loop decreases-loop
-add-allowance c = search rules
+overflow_step-allowance : tie.Need-overflow_step-allowance invariant-loop-allowance decreases-loop-allowance
+overflow_step-allowance c = search rules
 
-loop-less : tie.Need-loop-smaller invariant-loop decreases-loop
-loop-less c = search rules
+loop-allowance-smaller : tie.Need-loop-allowance-smaller invariant-loop-allowance decreases-loop-allowance
+loop-allowance-smaller c = search rules
 
-loop-again : tie.Need-loop-preserved invariant-loop decreases-loop
-loop-again c = search rules
+loop-allowance-preserved : tie.Need-loop-allowance-preserved invariant-loop-allowance decreases-loop-allowance
+loop-allowance-preserved c = search rules
 
-returns : tie.Need-returns invariant-loop decreases-loop
+returns : tie.Need-returns invariant-loop-allowance decreases-loop-allowance
 returns c = search rules
 
 pub allowances_spec : {M : Type 1} → statement M
 allowances_spec =
     tie.close
-    (tie.spec
-    invariant-loop
-    decreases-loop
-    loop-holds
-    over-chain-requires
-    add-allowance
-    loop-less
-    loop-again
-    returns)
+    (tie.spec invariant-loop-allowance decreases-loop-allowance loop-allowance-init over_chain-requires overflow_step-allowance loop-allowance-smaller loop-allowance-preserved returns)

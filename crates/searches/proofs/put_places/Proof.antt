@@ -5,63 +5,43 @@ use borrow.Author.Rules.{rules}
 use Rattle.searches.proofs.put_places.Statement.{statement}
 use Rattle.searches.proofs.put_places.Tie as tie
 
-abbrev invariant-loop : tie.invariant-loop
-invariant-loop places k₀ t5 k = k ≤ 8
+abbrev invariant-loop-k : tie.invariant-loop-k
+invariant-loop-k places k₀ t5 k = k ≤ 8
 
-abbrev decreases-loop : tie.decreases-loop
-decreases-loop places k₀ t5 k = 8 - k
+abbrev decreases-loop-k : tie.decreases-loop-k
+decreases-loop-k places k₀ t5 k = 8 - k
 
-slice-aggregate-write-all : tie.Need-slice-aggregate-write-all invariant-loop decreases-loop
-slice-aggregate-write-all c = search rules
+write_all-requires : tie.Need-write_all-requires invariant-loop-k decreases-loop-k
+write_all-requires c κs = search rules
 
-write-all-requires : tie.Need-write-all-requires invariant-loop decreases-loop
-write-all-requires c κs = search rules
+loop-k-init : tie.Need-loop-k-init invariant-loop-k decreases-loop-k
+loop-k-init c = search rules
 
-loop-holds : tie.Need-loop-init invariant-loop decreases-loop
-loop-holds c = search rules
+offset_bounds-places-k : tie.Need-offset_bounds-places-k invariant-loop-k decreases-loop-k
+offset_bounds-places-k c = search rules
 
-slice-aggregate-put : tie.Need-slice-aggregate-put invariant-loop decreases-loop
-slice-aggregate-put c = search rules
+bounds-places-k : tie.Need-bounds-places-k invariant-loop-k decreases-loop-k
+bounds-places-k c = search rules
 
-mul-wide16 : tie.Need-overflow-mul-wide16 invariant-loop decreases-loop
-mul-wide16 c = search rules
-
-array-read-wide16 : tie.Need-array-read-wide16 invariant-loop decreases-loop
-array-read-wide16 c = search rules
-
-wide16-requires : tie.Need-wide16-requires invariant-loop decreases-loop
+wide16-requires : tie.Need-wide16-requires invariant-loop-k decreases-loop-k
 wide16-requires c κs = search rules
 
-put-requires : tie.Need-put-requires invariant-loop decreases-loop
+put-requires : tie.Need-put-requires invariant-loop-k decreases-loop-k
 put-requires c κs = search rules
 
-add-k : tie.Need-overflow-add-k invariant-loop decreases-loop
-add-k c = search rules
+overflow_step-k : tie.Need-overflow_step-k invariant-loop-k decreases-loop-k
+overflow_step-k c = search rules
 
-loop-less : tie.Need-loop-smaller invariant-loop decreases-loop
-loop-less c = search rules
+loop-k-smaller : tie.Need-loop-k-smaller invariant-loop-k decreases-loop-k
+loop-k-smaller c = search rules
 
-loop-again : tie.Need-loop-preserved invariant-loop decreases-loop
-loop-again c = search rules
+loop-k-preserved : tie.Need-loop-k-preserved invariant-loop-k decreases-loop-k
+loop-k-preserved c = search rules
 
-returns : tie.Need-returns invariant-loop decreases-loop
+returns : tie.Need-returns invariant-loop-k decreases-loop-k
 returns c = search rules
 
 pub put_places_spec : {M : Type 1} → statement M
 put_places_spec =
     tie.close
-    (tie.spec
-    invariant-loop
-    decreases-loop
-    slice-aggregate-write-all
-    write-all-requires
-    loop-holds
-    slice-aggregate-put
-    mul-wide16
-    array-read-wide16
-    wide16-requires
-    put-requires
-    add-k
-    loop-less
-    loop-again
-    returns)
+    (tie.spec invariant-loop-k decreases-loop-k write_all-requires loop-k-init offset_bounds-places-k bounds-places-k wide16-requires put-requires overflow_step-k loop-k-smaller loop-k-preserved returns)

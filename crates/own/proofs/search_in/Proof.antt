@@ -31,9 +31,9 @@ before b =
 
 abbrev after : Made → Tree
 after b =
-    let l = b.build-b.new.start.1.1 in
-    tree (shape b.build-b.result.nodes b.build-b.result.listed l.0 l.1.0 l.1.1.0 l.1.1.1.1.1.1.1.1.0)
-    (sides l.1.1.1.0 l.1.1.1.1.0 l.1.1.1.1.1.0 l.1.1.1.1.1.1.0) l.1.1.1.1.1.1.1.0
+    let l = b.build-b.new in
+    tree (shape b.build-b.result.nodes b.build-b.result.listed l.level l.start l.count l.entries)
+    (sides l.x_lo l.x_hi l.y_lo l.y_hi) l.kits
 
 room : (b : Made) → Room b.build-b.result.nodes b.build-b.result.listed (lengths (after b))
 room b = made_room (first b).requires.0 (before b) (first b).requires.1 b.build-b.ensures.0 b.build-b.ensures.1

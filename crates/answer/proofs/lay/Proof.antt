@@ -13,38 +13,38 @@ use Rattle.answer.proofs.lay.Statement.{statement}
 use Rattle.answer.proofs.lay.Tie as tie
 
 -- the answer
-abbrev bytes : tie.After-put-answer → List ℕ
-bytes c = let a = c.before.before.before.before.args in answer_lines a.found a.want
+abbrev bytes : tie.After-put_answer-n → List ℕ
+bytes c = let a = c.args in answer_lines a.found a.want
 
-text_is : (c : tie.After-put-answer) → take c.put-answer.result c.put-answer.new.1.1.0 ≡ bytes c
-text_is c = puts_first c.put-answer.ensures
+text_is : (c : tie.After-put_answer-n) → take c.put_answer-n.result c.put_answer-n.new.out ≡ bytes c
+text_is c = puts_first c.put_answer-n.ensures
 
-count_is : (c : tie.After-put-answer) → c.put-answer.result ≡ length (bytes c)
-count_is c = omega (arith, c.put-answer.ensures.end)
+count_is : (c : tie.After-put_answer-n) → c.put_answer-n.result ≡ length (bytes c)
+count_is c = omega (arith, c.put_answer-n.ensures.end)
 
-returns : tie.Need-returns
-returns c =
+returns-then-out-n : tie.Need-returns-then-out-n
+returns-then-out-n c =
     let p = c.before.before.before in
-    too_short (bytes p) p.before.before.before.before.args.out.now (omega (arith, count_is p, c.if1.true))
+    too_short (bytes p) p.args.out.now (omega (arith, count_is p, c.if-out-n.true))
 
-slice-reshare-prefix-put : tie.Need-slice-reshare-prefix-put
-slice-reshare-prefix-put c =
+slice_bounds-put-end : tie.Need-slice_bounds-put-end
+slice_bounds-put-end c =
     let p = c.before.before.before.before in
-    omega (arith, count_is p, ap length (text_is p), length-take p.put-answer.result p.put-answer.new.1.1.0)
+    omega (arith, count_is p, ap length (text_is p), length-take p.put_answer-n.result p.put_answer-n.new.out)
 
-slice-aggregate-put : tie.Need-slice-aggregate-put
-slice-aggregate-put c = let p = c.before.before.before.before.before in count_is p ∙ sym (ap length (text_is p))
+slice_bounds-put-end-2 : tie.Need-slice_bounds-put-end-2
+slice_bounds-put-end-2 c = let p = c.before.before.before.before in count_is p ∙ sym (ap length (text_is p))
 
 put-requires : tie.Need-put-requires
 put-requires c κs =
-    let p = c.before.before.before.before.before in
-    omega (arith, count_is p, ap length (text_is p), c.before.before.if1.false)
+    let p = c.before.before.before.before in
+    omega (arith, count_is p, ap length (text_is p), c.if-out-n.false)
 
-returns-2 : tie.Need-returns-2
-returns-2 c =
+returns : tie.Need-returns
+returns c =
     let e = c.before.before.before.before.before in
-    let p = e.before.before.before in
-    has_room (bytes p) p.before.before.before.before.args.out.now (omega (arith, count_is p, e.if1.false)) (puts_text (text_is p) c.before.before.put.ensures)
+    let p = e.before.before in
+    has_room (bytes p) p.args.out.now (omega (arith, count_is p, e.if-out-n.false)) (puts_text (text_is p) c.put.ensures)
 
 pub lay_spec : {M : Type 1} → statement M
-lay_spec = tie.close (tie.spec (λ c κs. search rules) (λ c. search rules) returns slice-reshare-prefix-put slice-aggregate-put put-requires (λ c. search rules) (λ c. search rules) returns-2)
+lay_spec = tie.close (tie.spec (λ c κs. search rules) (λ c. search rules) returns-then-out-n slice_bounds-put-end slice_bounds-put-end-2 put-requires (λ c. search rules) (λ c. search rules) returns)

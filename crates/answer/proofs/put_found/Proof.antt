@@ -20,56 +20,56 @@ abbrev from-measure : tie.Start → List ℕ
 from-measure s = measure_lines s.args.squared s.args.steps ++ from-group s
 
 -- the places of the code before each call
-abbrev start : tie.After-put → tie.Start
-start c = c.before.before.before.before.before
+abbrev start : tie.After-put-a → tie.Start
+start c = c.before.before.before.before.before.before
 
-abbrev word : tie.After-put-measure → tie.After-put
+abbrev word : tie.After-put_measure-b → tie.After-put-a
 word c = c.before.before.before.before
 
-abbrev measure : tie.After-put-group → tie.After-put-measure
+abbrev measure : tie.After-put_group-c → tie.After-put_measure-b
 measure c = c.before.before.before.before
 
 whole : (s : tie.Start) → 0 + length (word_line "answer=" (ascii "found") ++ from-measure s) ≤ length s.args.out.now
 unfolding found_lines
 whole s = omega (arith, s.requires)
 
-put-requires : tie.Need-put-requires
-put-requires c κs =
-    let s = c.before.before.before.before in
+put-a-requires : tie.Need-put-a-requires
+put-a-requires c κs =
+    let s = c.before.before.before.before.before in
     room_first (word_line "answer=" (ascii "found")) (from-measure s) _ _ (whole s)
 
-behind_word : (c : tie.After-put) → c.put.result + length (from-measure (start c)) ≤ length c.put.new.0
-behind_word c = room_after (from-measure (start c)) (whole (start c)) c.put.ensures
+behind_word : (c : tie.After-put-a) → c.put-a.result + length (from-measure (start c)) ≤ length c.put-a.new.out
+behind_word c = room_after (from-measure (start c)) (whole (start c)) c.put-a.ensures
 
-put-measure-requires : tie.Need-put-measure-requires
-put-measure-requires c κs =
+put_measure-b-requires : tie.Need-put_measure-b-requires
+put_measure-b-requires c κs =
     let p = c.before.before.before in
     let s = start p in
     room_first (measure_lines s.args.squared s.args.steps) (from-group s) _ _ (behind_word p)
 
-behind_measure : (c : tie.After-put-measure) → c.put-measure.result + length (from-group (start (word c))) ≤ length c.put-measure.new.0
-behind_measure c = room_after (from-group (start (word c))) (behind_word (word c)) c.put-measure.ensures
+behind_measure : (c : tie.After-put_measure-b) → c.put_measure-b.result + length (from-group (start (word c))) ≤ length c.put_measure-b.new.out
+behind_measure c = room_after (from-group (start (word c))) (behind_word (word c)) c.put_measure-b.ensures
 
-put-group-requires : tie.Need-put-group-requires
-put-group-requires c κs =
+put_group-c-requires : tie.Need-put_group-c-requires
+put_group-c-requires c κs =
     let p = c.before.before.before in
     let s = start (word p) in
     room_first (group_lines (kinds s.args.want) s.args.places.now) end_line _ _ (behind_measure p)
 
-behind_group : (c : tie.After-put-group) → c.put-group.result + length end_line ≤ length c.put-group.new.0
-behind_group c = room_after end_line (behind_measure (measure c)) c.put-group.ensures
+behind_group : (c : tie.After-put_group-c) → c.put_group-c.result + length end_line ≤ length c.put_group-c.new.out
+behind_group c = room_after end_line (behind_measure (measure c)) c.put_group-c.ensures
 
-put-requires-2 : tie.Need-put-requires-2
-put-requires-2 c κs = behind_group c.before.before.before.before
+put-requires : tie.Need-put-requires
+put-requires c κs = behind_group c.before.before.before.before.before
 
 returns : tie.Need-returns
 unfolding found_lines
 returns c =
     let e = c.before.before in
-    let g = e.before.before.before.before.before in
+    let g = e.before.before.before.before.before.before in
     let m = measure g in
     let w = word m in
-    puts_then _ (whole (start w)) w.put.ensures (puts_then _ (behind_word w) m.put-measure.ensures (puts_then _ (behind_measure m) g.put-group.ensures e.put2.ensures))
+    puts_then _ (whole (start w)) w.put-a.ensures (puts_then _ (behind_word w) m.put_measure-b.ensures (puts_then _ (behind_measure m) g.put_group-c.ensures e.put.ensures))
 
 pub put_found_spec : {M : Type 1} → statement M
-put_found_spec = tie.close (tie.spec (λ c. search rules) put-requires put-measure-requires put-group-requires (λ c. search rules) put-requires-2 (λ c. search rules) returns)
+put_found_spec = tie.close (tie.spec put-a-requires put_measure-b-requires put_group-c-requires put-requires (λ c. search rules) returns)

@@ -23,69 +23,69 @@ abbrev from-code : tie.Start → List ℕ
 from-code s = number_line "code=" s.args.code ++ from-family s
 
 -- the places of the code before each call
-abbrev start : tie.After-put → tie.Start
-start c = c.before.before.before.before
+abbrev start : tie.After-put-a → tie.Start
+start c = c.before.before.before.before.before
 
-abbrev word : tie.After-put-number-line → tie.After-put
-word c = c.before.before.before.before.before
+abbrev word : tie.After-put_number_line-b → tie.After-put-a
+word c = c.before.before.before.before.before.before
 
-abbrev code : tie.After-put-family → tie.After-put-number-line
+abbrev code : tie.After-put_family-c → tie.After-put_number_line-b
 code c = c.before.before.before.before
 
-abbrev family : tie.After-put-number-line2 → tie.After-put-family
-family c = c.before.before.before.before.before
+abbrev family : tie.After-put_number_line-d → tie.After-put_family-c
+family c = c.before.before.before.before.before.before
 
 whole : (s : tie.Start) → 0 + length (word_line "answer=" (ascii "refused") ++ from-code s) ≤ length s.args.out.now
 unfolding refused_lines
 whole s = omega (arith, s.requires)
 
-put-requires : tie.Need-put-requires
-put-requires c κs =
-    let s = c.before.before.before in
+put-a-requires : tie.Need-put-a-requires
+put-a-requires c κs =
+    let s = c.before.before.before.before in
     room_first (word_line "answer=" (ascii "refused")) (from-code s) _ _ (whole s)
 
-behind_word : (c : tie.After-put) → c.put.result + length (from-code (start c)) ≤ length c.put.new.0
-behind_word c = room_after (from-code (start c)) (whole (start c)) c.put.ensures
+behind_word : (c : tie.After-put-a) → c.put-a.result + length (from-code (start c)) ≤ length c.put-a.new.out
+behind_word c = room_after (from-code (start c)) (whole (start c)) c.put-a.ensures
 
-put-number-line-requires : tie.Need-put-number-line-requires
-put-number-line-requires c κs =
-    let p = c.before.before.before.before in
+put_number_line-b-requires : tie.Need-put_number_line-b-requires
+put_number_line-b-requires c κs =
+    let p = c.before.before.before.before.before in
     let s = start p in
     room_first (number_line "code=" s.args.code) (from-family s) _ _ (behind_word p)
 
-behind_code : (c : tie.After-put-number-line) → c.put-number-line.result + length (from-family (start (word c))) ≤ length c.put-number-line.new.0
-behind_code c = room_after (from-family (start (word c))) (behind_word (word c)) c.put-number-line.ensures
+behind_code : (c : tie.After-put_number_line-b) → c.put_number_line-b.result + length (from-family (start (word c))) ≤ length c.put_number_line-b.new.out
+behind_code c = room_after (from-family (start (word c))) (behind_word (word c)) c.put_number_line-b.ensures
 
-put-family-requires : tie.Need-put-family-requires
-put-family-requires c κs =
+put_family-c-requires : tie.Need-put_family-c-requires
+put_family-c-requires c κs =
     let p = c.before.before.before in
     let s = start (word p) in
     room_first (word_line "from=" (family_word (family_of s.args.code))) (from_at s) _ _ (behind_code p)
 
-behind_family : (c : tie.After-put-family) → c.put-family.result + length (from_at (start (word (code c)))) ≤ length c.put-family.new.0
-behind_family c = room_after (from_at (start (word (code c)))) (behind_code (code c)) c.put-family.ensures
+behind_family : (c : tie.After-put_family-c) → c.put_family-c.result + length (from_at (start (word (code c)))) ≤ length c.put_family-c.new.out
+behind_family c = room_after (from_at (start (word (code c)))) (behind_code (code c)) c.put_family-c.ensures
 
-put-number-line-requires-2 : tie.Need-put-number-line-requires-2
-put-number-line-requires-2 c κs =
-    let p = c.before.before.before.before in
+put_number_line-d-requires : tie.Need-put_number_line-d-requires
+put_number_line-d-requires c κs =
+    let p = c.before.before.before.before.before in
     let s = start (word (code p)) in
     room_first (number_line "at=" s.args.at) end_line _ _ (behind_family p)
 
-behind_at : (c : tie.After-put-number-line2) → c.put-number-line2.result + length end_line ≤ length c.put-number-line2.new.0
-behind_at c = room_after end_line (behind_family (family c)) c.put-number-line2.ensures
+behind_at : (c : tie.After-put_number_line-d) → c.put_number_line-d.result + length end_line ≤ length c.put_number_line-d.new.out
+behind_at c = room_after end_line (behind_family (family c)) c.put_number_line-d.ensures
 
-put-requires-2 : tie.Need-put-requires-2
-put-requires-2 c κs = behind_at c.before.before.before.before
+put-requires : tie.Need-put-requires
+put-requires c κs = behind_at c.before.before.before.before.before
 
 returns : tie.Need-returns
 unfolding refused_lines
 returns c =
     let e = c.before.before in
-    let a = e.before.before.before.before.before in
+    let a = e.before.before.before.before.before.before in
     let f = family a in
     let n = code f in
     let w = word n in
-    puts_then _ (whole (start w)) w.put.ensures (puts_then _ (behind_word w) n.put-number-line.ensures (puts_then _ (behind_code n) f.put-family.ensures (puts_then _ (behind_family f) a.put-number-line2.ensures e.put2.ensures)))
+    puts_then _ (whole (start w)) w.put-a.ensures (puts_then _ (behind_word w) n.put_number_line-b.ensures (puts_then _ (behind_code n) f.put_family-c.ensures (puts_then _ (behind_family f) a.put_number_line-d.ensures e.put.ensures)))
 
 pub put_refused_spec : {M : Type 1} → statement M
-put_refused_spec = tie.close (tie.spec (λ c. search rules) put-requires (λ c. search rules) put-number-line-requires put-family-requires (λ c. search rules) put-number-line-requires-2 (λ c. search rules) put-requires-2 (λ c. search rules) returns)
+put_refused_spec = tie.close (tie.spec put-a-requires put_number_line-b-requires put_family-c-requires put_number_line-d-requires put-requires (λ c. search rules) returns)

@@ -48,55 +48,55 @@ slice_bounds-search_over-end : tie.Need-slice_bounds-search_over-end
 slice_bounds-search_over-end c = (room c.before.before.before.before.before.before.before.before.before.before.before.before.before.before).level
 
 slice_bounds-search_over-end-2 : tie.Need-slice_bounds-search_over-end-2
-slice_bounds-search_over-end-2 c = sym (length-take-le _ _ (room c.before.before.before.before.before.before.before.before.before.before.before.before.before.before.before).level)
+slice_bounds-search_over-end-2 c = sym (length-take-le _ _ (room c.before.before.before.before.before.before.before.before.before.before.before.before.before.before).level)
 
 slice_bounds-search_over-end-3 : tie.Need-slice_bounds-search_over-end-3
-slice_bounds-search_over-end-3 c = (room c.before.before.before.before.before.before.before.before.before.before.before.before.before.before.before).start
+slice_bounds-search_over-end-3 c = (room c.before.before.before.before.before.before.before.before.before.before.before.before.before.before).start
 
 slice_bounds-search_over-end-4 : tie.Need-slice_bounds-search_over-end-4
-slice_bounds-search_over-end-4 c = sym (length-take-le _ _ (room c.before.before.before.before.before.before.before.before.before.before.before.before.before.before.before.before).start)
+slice_bounds-search_over-end-4 c = sym (length-take-le _ _ (room c.before.before.before.before.before.before.before.before.before.before.before.before.before.before).start)
 
 slice_bounds-search_over-end-5 : tie.Need-slice_bounds-search_over-end-5
-slice_bounds-search_over-end-5 c = (room c.before.before.before.before.before.before.before.before.before.before.before.before.before.before.before.before).count
+slice_bounds-search_over-end-5 c = (room c.before.before.before.before.before.before.before.before.before.before.before.before.before.before).count
 
 slice_bounds-search_over-end-6 : tie.Need-slice_bounds-search_over-end-6
-slice_bounds-search_over-end-6 c = sym (length-take-le _ _ (room c.before.before.before.before.before.before.before.before.before.before.before.before.before.before.before.before.before).count)
+slice_bounds-search_over-end-6 c = sym (length-take-le _ _ (room c.before.before.before.before.before.before.before.before.before.before.before.before.before.before).count)
 
 slice_bounds-search_over-end-7 : tie.Need-slice_bounds-search_over-end-7
-slice_bounds-search_over-end-7 c = (room c.before.before.before.before.before.before.before.before.before.before.before.before.before.before.before.before.before).x_lo
+slice_bounds-search_over-end-7 c = (room c.before.before.before.before.before.before.before.before.before.before.before.before.before.before).x_lo
 
 slice_bounds-search_over-end-8 : tie.Need-slice_bounds-search_over-end-8
-slice_bounds-search_over-end-8 c = sym (length-take-le _ _ (room c.before.before.before.before.before.before.before.before.before.before.before.before.before.before.before.before.before.before).x_lo)
+slice_bounds-search_over-end-8 c = sym (length-take-le _ _ (room c.before.before.before.before.before.before.before.before.before.before.before.before.before.before).x_lo)
 
 slice_bounds-search_over-end-9 : tie.Need-slice_bounds-search_over-end-9
-slice_bounds-search_over-end-9 c = (room c.before.before.before.before.before.before.before.before.before.before.before.before.before.before.before.before.before.before).x_hi
+slice_bounds-search_over-end-9 c = (room c.before.before.before.before.before.before.before.before.before.before.before.before.before.before).x_hi
 
 slice_bounds-search_over-end-10 : tie.Need-slice_bounds-search_over-end-10
-slice_bounds-search_over-end-10 c = sym (length-take-le _ _ (room c.before.before.before.before.before.before.before.before.before.before.before.before.before.before.before.before.before.before.before).x_hi)
+slice_bounds-search_over-end-10 c = sym (length-take-le _ _ (room c.before.before.before.before.before.before.before.before.before.before.before.before.before.before).x_hi)
 
 slice_bounds-search_over-end-11 : tie.Need-slice_bounds-search_over-end-11
-slice_bounds-search_over-end-11 c = (room c.before.before.before.before.before.before.before.before.before.before.before.before.before.before.before.before.before.before.before).y_lo
+slice_bounds-search_over-end-11 c = (room c.before.before.before.before.before.before.before.before.before.before.before.before.before.before).y_lo
 
 slice_bounds-search_over-end-12 : tie.Need-slice_bounds-search_over-end-12
-slice_bounds-search_over-end-12 c = sym (length-take-le _ _ (room c.before.before.before.before.before.before.before.before.before.before.before.before.before.before.before.before.before.before.before.before).y_lo)
+slice_bounds-search_over-end-12 c = sym (length-take-le _ _ (room c.before.before.before.before.before.before.before.before.before.before.before.before.before.before).y_lo)
 
 slice_bounds-search_over-end-13 : tie.Need-slice_bounds-search_over-end-13
-slice_bounds-search_over-end-13 c = (room c.before.before.before.before.before.before.before.before.before.before.before.before.before.before.before.before.before.before.before.before).y_hi
+slice_bounds-search_over-end-13 c = (room c.before.before.before.before.before.before.before.before.before.before.before.before.before.before).y_hi
 
 slice_bounds-search_over-end-14 : tie.Need-slice_bounds-search_over-end-14
-slice_bounds-search_over-end-14 c = sym (length-take-le _ _ (room c.before.before.before.before.before.before.before.before.before.before.before.before.before.before.before.before.before.before.before.before.before).y_hi)
+slice_bounds-search_over-end-14 c = sym (length-take-le _ _ (room c.before.before.before.before.before.before.before.before.before.before.before.before.before.before).y_hi)
 
 slice_bounds-search_over-end-15 : tie.Need-slice_bounds-search_over-end-15
-slice_bounds-search_over-end-15 c = (room c.before.before.before.before.before.before.before.before.before.before.before.before.before.before.before.before.before.before.before.before.before).kits
+slice_bounds-search_over-end-15 c = (room c.before.before.before.before.before.before.before.before.before.before.before.before.before.before).kits
 
 slice_bounds-search_over-end-16 : tie.Need-slice_bounds-search_over-end-16
-slice_bounds-search_over-end-16 c = sym (length-take-le _ _ (room c.before.before.before.before.before.before.before.before.before.before.before.before.before.before.before.before.before.before.before.before.before.before).kits)
+slice_bounds-search_over-end-16 c = sym (length-take-le _ _ (room c.before.before.before.before.before.before.before.before.before.before.before.before.before.before).kits)
 
 slice_bounds-search_over-end-17 : tie.Need-slice_bounds-search_over-end-17
-slice_bounds-search_over-end-17 c = (room c.before.before.before.before.before.before.before.before.before.before.before.before.before.before.before.before.before.before.before.before.before.before).entries
+slice_bounds-search_over-end-17 c = (room c.before.before.before.before.before.before.before.before.before.before.before.before.before.before).entries
 
 slice_bounds-search_over-end-18 : tie.Need-slice_bounds-search_over-end-18
-slice_bounds-search_over-end-18 c = sym (length-take-le _ _ (room c.before.before.before.before.before.before.before.before.before.before.before.before.before.before.before.before.before.before.before.before.before.before.before).entries)
+slice_bounds-search_over-end-18 c = sym (length-take-le _ _ (room c.before.before.before.before.before.before.before.before.before.before.before.before.before.before).entries)
 
 search_over-requires : tie.Need-search_over-requires
 search_over-requires c κs = let b : Made = c.before.before.before.before.before.before.before.before.before.before.before.before.before.before in subst (Passes (places b)) (sym (is_built b)) (built_sound (places b) (first b).requires.0)

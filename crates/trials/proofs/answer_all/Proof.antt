@@ -16,13 +16,4 @@ decreases-loop input₀ out₀ x₀ y₀ kit₀ level₀ start₀ count₀ x-lo�
 pub answer_all_spec : {M : Type 1} → statement M
 answer_all_spec =
     tie.close
-    (tie.spec
-    invariant-loop
-    decreases-loop
-    (λ c. search rules)
-    (λ c κs. search rules)
-    (λ c. search rules)
-    (λ c. search rules)
-    (λ c. search rules)
-    (λ c. search rules)
-    (λ c. search rules))
+    (tie.spec invariant-loop decreases-loop (λ c. search rules) (λ c κs. search rules) (λ c. search rules) (λ c. search rules) (λ c. search rules) (λ c. search rules) (λ c. search rules))

@@ -5,26 +5,13 @@ use borrow.Author.Rules.{rules}
 use Rattle.trials.proofs.answers.put_column16.Statement.{statement}
 use Rattle.trials.proofs.answers.put_column16.Tie as tie
 
-abbrev invariant-loop : tie.invariant-loop
-invariant-loop out₀ to s at₀ i₀ i-end out at i = i ≤ i-end
+abbrev invariant-loop-i : tie.invariant-loop-i
+invariant-loop-i out₀ to s at₀ i₀ i-end out at i = i ≤ i-end
 
-abbrev decreases-loop : tie.decreases-loop
-decreases-loop out₀ to s at₀ i₀ i-end out at i = i-end - i
+abbrev decreases-loop-i : tie.decreases-loop-i
+decreases-loop-i out₀ to s at₀ i₀ i-end out at i = i-end - i
 
 pub put_column16_spec : {M : Type 1} → statement M
 put_column16_spec =
     tie.close
-    (tie.spec
-    invariant-loop
-    decreases-loop
-    (λ c. search rules)
-    (λ c κs. search rules)
-    (λ c. search rules)
-    (λ c. search rules)
-    (λ c. search rules)
-    (λ c κs. search rules)
-    (λ c κs. search rules)
-    (λ c. search rules)
-    (λ c. search rules)
-    (λ c. search rules)
-    (λ c. search rules))
+    (tie.spec invariant-loop-i decreases-loop-i (λ c κs. search rules) (λ c. search rules) (λ c. search rules) (λ c. search rules) (λ c κs. search rules) (λ c κs. search rules) (λ c. search rules) (λ c. search rules) (λ c. search rules) (λ c. search rules))

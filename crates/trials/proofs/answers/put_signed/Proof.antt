@@ -16,22 +16,16 @@ use Rattle.trials.proofs.answers.put_signed.Tie as tie
 within : {o t : List ℕ} {r : ℕ} {o' : List ℕ} → Puts o 0 t r o' → r ≤ length o'
 within p = omega (arith, p.end, simp length-append at (ap length p.bytes))
 
-put-signed-requires : tie.Need-put-signed-requires
-put-signed-requires c κs = rw (to_z-of_z c.before.ranges.z) (omega (arith, signed_most c.before.args.z))
+put_signed-k-requires : tie.Need-put_signed-k-requires
+put_signed-k-requires c κs = rw (to_z-of_z c.ranges.z) (omega (arith, signed_most c.args.z))
 
-array-share-prefix-text : tie.Need-array-share-prefix-text
-array-share-prefix-text c = within c.before.before.put-signed.ensures
+slice_bounds-text-end : tie.Need-slice_bounds-text-end
+slice_bounds-text-end c = within c.put_signed-k.ensures
 
-slice-aggregate-put : tie.Need-slice-aggregate-put
-slice-aggregate-put c = sym (length-take-le _ _ (within c.before.before.before.put-signed.ensures))
+slice_bounds-put-end : tie.Need-slice_bounds-put-end
+slice_bounds-put-end c = sym (length-take-le _ _ (within c.put_signed-k.ensures))
 
 pub put_signed_spec : {M : Type 1} → statement M
 put_signed_spec =
     tie.close
-    (tie.spec
-    (λ c. search rules)
-    put-signed-requires
-    array-share-prefix-text
-    slice-aggregate-put
-    (λ c κs. search rules)
-    (λ c. search rules))
+    (tie.spec (λ c. search rules) put_signed-k-requires slice_bounds-text-end slice_bounds-put-end (λ c κs. search rules) (λ c. search rules))

@@ -8,4 +8,4 @@ use Rattle.trials.proofs.columns.first32.Statement.{statement}
 use Rattle.trials.proofs.columns.first32.Tie as tie
 
 pub first32_spec : {M : Type 1} → statement M
-first32_spec = tie.close (tie.spec (λ c. sym (length-take-le _ _ (omega arith))) (λ c. search rules) (λ c. search rules))
+first32_spec = tie.close (tie.spec (λ c. search rules) (λ c. search rules) (λ c. search rules))

@@ -8,4 +8,4 @@ use Rattle.trials.proofs.columns.lend16.Statement.{statement}
 use Rattle.trials.proofs.columns.lend16.Tie as tie
 
 pub lend16_spec : {M : Type 1} → statement M
-lend16_spec = tie.close (tie.spec (λ c. sym (length-take-le _ _ (omega arith))) (λ c. search rules) (λ c. search rules))
+lend16_spec = tie.close (tie.spec (λ c. search rules) (λ c. search rules) (λ c. search rules))

@@ -8,4 +8,4 @@ use Rattle.trials.proofs.columns.lend8.Statement.{statement}
 use Rattle.trials.proofs.columns.lend8.Tie as tie
 
 pub lend8_spec : {M : Type 1} → statement M
-lend8_spec = tie.close (tie.spec (λ c. sym (length-take-le _ _ (omega arith))) (λ c. search rules) (λ c. search rules))
+lend8_spec = tie.close (tie.spec (λ c. search rules) (λ c. search rules) (λ c. search rules))

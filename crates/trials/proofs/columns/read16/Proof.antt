@@ -7,25 +7,13 @@ use borrow.Author.Rules.{rules}
 use Rattle.trials.proofs.columns.read16.Statement.{statement}
 use Rattle.trials.proofs.columns.read16.Tie as tie
 
-abbrev invariant-loop : tie.invariant-loop
-invariant-loop input₀ to₀ v₀ n i₀ input to v i = (i ≤ n) × (length to ≡ length to₀)
+abbrev invariant-loop-i : tie.invariant-loop-i
+invariant-loop-i input₀ to₀ v₀ n i₀ input to v i = (i ≤ n) × (length to ≡ length to₀)
 
-abbrev decreases-loop : tie.decreases-loop
-decreases-loop input₀ to₀ v₀ n i₀ input to v i = n - i
+abbrev decreases-loop-i : tie.decreases-loop-i
+decreases-loop-i input₀ to₀ v₀ n i₀ input to v i = n - i
 
 pub read16_spec : {M : Type 1} → statement M
 read16_spec =
     tie.close
-    (tie.spec
-    invariant-loop
-    decreases-loop
-    (λ c κs. search rules)
-    (λ c. search rules)
-    (λ c κs. search rules)
-    (λ c κs. search rules)
-    (λ c. search rules)
-    (λ c. search rules)
-    (λ c. search rules)
-    (λ c κs. search rules)
-    (λ c. search rules)
-    (λ c. search rules))
+    (tie.spec invariant-loop-i decreases-loop-i (λ c κs. search rules) (λ c. search rules) (λ c κs. search rules) (λ c κs. search rules) (λ c. search rules) (λ c. search rules) (λ c. search rules) (λ c κs. search rules) (λ c. search rules) (λ c. search rules))

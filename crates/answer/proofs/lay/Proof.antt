@@ -42,8 +42,8 @@ put-requires c κs =
 
 returns : tie.Need-returns
 returns c =
-    let e = c.before.before.before.before.before in
-    let p = e.before.before in
+    let e = c.before.before.before.before in
+    let p = e.before.before.before in
     has_room (bytes p) p.args.out.now (omega (arith, count_is p, e.if-out-n.false)) (puts_text (text_is p) c.put.ensures)
 
 pub lay_spec : {M : Type 1} → statement M

@@ -63,7 +63,7 @@ returns c =
     let d = t.before.before in
     let e = d.before.before in
     let s = e.before.before.before in
-    puts_text (of_refused s.args.found s.args.want e.if-found-eq0.false d.if-found-eq31.false t.if-found-eq32.false) c.before.before.Put-refused.ensures
+    puts_text (of_refused s.args.found s.args.want e.if-found-eq0.false d.if-found-eq31.false t.if-found-eq32.false) c.before.before.put_refused.ensures
 
 pub put_answer_spec : {M : Type 1} → statement M
 put_answer_spec =

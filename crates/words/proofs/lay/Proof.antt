@@ -6,11 +6,11 @@ use Rattle.answer.proofs.LentLaws.{too_short, has_room}
 use Rattle.words.proofs.lay.Statement.{statement}
 use Rattle.words.proofs.lay.Tie as tie
 
-returns : tie.Need-returns
-returns c = too_short _ _ (omega arith)
+returns-then-answer-words : tie.Need-returns-then-answer-words
+returns-then-answer-words c = too_short _ _ (omega arith)
 
-returns-2 : tie.Need-returns-2
-returns-2 c = has_room _ _ (omega arith) c.before.before.put.ensures
+returns : tie.Need-returns
+returns c = has_room _ _ (omega arith) c.put.ensures
 
 pub lay_spec : {M : Type 1} → statement M
-lay_spec = tie.close (tie.spec returns (λ c κs. search rules) (λ c. search rules) returns-2)
+lay_spec = tie.close (tie.spec returns-then-answer-words (λ c κs. search rules) (λ c. search rules) returns)

@@ -9,63 +9,49 @@ use Rattle.print.proofs.PutLaws.{Pasted, pasted_none, pasted_length, pasted_more
 use Rattle.words.proofs.put.Statement.{statement}
 use Rattle.words.proofs.put.Tie as tie
 
-abbrev invariant-loop : tie.invariant-loop
-invariant-loop answer₀ at words i₀ answer i = Pasted answer₀ at words i answer
+abbrev invariant-loop-i : tie.invariant-loop-i
+invariant-loop-i answer₀ at words i₀ answer i = Pasted answer₀ at words i answer
 
-abbrev decreases-loop : tie.decreases-loop
-decreases-loop answer₀ at words i₀ answer i = length words - i
+abbrev decreases-loop-i : tie.decreases-loop-i
+decreases-loop-i answer₀ at words i₀ answer i = length words - i
 
-loop-holds : tie.Need-loop-init invariant-loop decreases-loop
-loop-holds c = pasted_none _ _ _
+loop-i-init : tie.Need-loop-i-init invariant-loop-i decreases-loop-i
+loop-i-init c = pasted_none _ _ _
 
-mul-answer : tie.Need-overflow-mul-answer invariant-loop decreases-loop
-mul-answer c = search rules
+offset_bounds-words-i : tie.Need-offset_bounds-words-i invariant-loop-i decreases-loop-i
+offset_bounds-words-i c = search rules
 
-shared-slice-read-answer : tie.Need-shared-slice-read-answer invariant-loop decreases-loop
-shared-slice-read-answer c = search rules
+bounds-words-i : tie.Need-bounds-words-i invariant-loop-i decreases-loop-i
+bounds-words-i c = search rules
 
-add-answer : tie.Need-overflow-add-answer invariant-loop decreases-loop
-add-answer c = search rules
+overflow_add-answer : tie.Need-overflow_add-answer invariant-loop-i decreases-loop-i
+overflow_add-answer c = search rules
 
-mul-answer-2 : tie.Need-overflow-mul-answer-2 invariant-loop decreases-loop
-mul-answer-2 c = search rules
+offset_bounds-answer-at : tie.Need-offset_bounds-answer-at invariant-loop-i decreases-loop-i
+offset_bounds-answer-at c = search rules
 
-slice-write-answer : tie.Need-slice-write-answer invariant-loop decreases-loop
-slice-write-answer c = omega (arith, pasted_length _ _ _ _ _ c.before.before.before.requires c.before.before.loop.invariant)
+bounds-answer-at : tie.Need-bounds-answer-at invariant-loop-i decreases-loop-i
+bounds-answer-at c = omega (arith, pasted_length _ _ _ _ _ c.requires c.loop-i.invariant)
 
-add-i : tie.Need-overflow-add-i invariant-loop decreases-loop
-add-i c = search rules
+overflow_add-i : tie.Need-overflow_add-i invariant-loop-i decreases-loop-i
+overflow_add-i c = search rules
 
-loop-less : tie.Need-loop-smaller invariant-loop decreases-loop
-loop-less c = search rules
+loop-i-smaller : tie.Need-loop-i-smaller invariant-loop-i decreases-loop-i
+loop-i-smaller c = search rules
 
-loop-again : tie.Need-loop-preserved invariant-loop decreases-loop
-loop-again c = pasted_more _ _ _ _ _ c.before.before.before.requires c.before.before.loop.invariant c.before.loop-test.true
+loop-i-preserved : tie.Need-loop-i-preserved invariant-loop-i decreases-loop-i
+loop-i-preserved c = pasted_more _ _ _ _ _ c.requires c.loop-i.invariant c.loop-i-test.true
 
-add-result : tie.Need-overflow-add-result invariant-loop decreases-loop
-add-result c = omega (arith, c.before.before.requires, c.before.loop.invariant.within)
+overflow_add-result : tie.Need-overflow_add-result invariant-loop-i decreases-loop-i
+overflow_add-result c = omega (arith, c.requires, c.loop-i.invariant.within)
 
-same_length : tie.Need-same-length invariant-loop decreases-loop
-same_length c = let e : length c.before.loop.answer ≡ length c.before.before.args.answer.now = pasted_length _ _ _ _ _ c.before.before.requires c.before.loop.invariant in search rules
+shape_of-answer : tie.Need-shape_of-answer invariant-loop-i decreases-loop-i
+shape_of-answer c = let e : length c.loop-i.answer ≡ length c.args.answer.now = pasted_length _ _ _ _ _ c.requires c.loop-i.invariant in search rules
 
-returns : tie.Need-returns invariant-loop decreases-loop
-returns c = pasted_all _ _ _ _ _ c.before.before.requires c.before.loop.invariant c.loop-test.false
+returns : tie.Need-returns invariant-loop-i decreases-loop-i
+returns c = pasted_all _ _ _ _ _ c.requires c.loop-i.invariant c.loop-i-test.false
 
 pub put_spec : {M : Type 1} → statement M
 put_spec =
     tie.close
-    (tie.spec
-    invariant-loop
-    decreases-loop
-    loop-holds
-    mul-answer
-    shared-slice-read-answer
-    add-answer
-    mul-answer-2
-    slice-write-answer
-    add-i
-    loop-less
-    loop-again
-    add-result
-    same_length
-    returns)
+    (tie.spec invariant-loop-i decreases-loop-i loop-i-init offset_bounds-words-i bounds-words-i overflow_add-answer offset_bounds-answer-at bounds-answer-at overflow_add-i loop-i-smaller loop-i-preserved overflow_add-result shape_of-answer returns)

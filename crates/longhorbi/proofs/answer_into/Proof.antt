@@ -8,36 +8,36 @@ use Rattle.reply.specs.Reply.{printed}
 use Rattle.longhorbi.proofs.answer_into.Statement.{statement}
 use Rattle.longhorbi.proofs.answer_into.Tie as tie
 
-read-full-requires : tie.Need-read-full-requires
-read-full-requires c κs = search rules
+read_full-n-requires : tie.Need-read_full-n-requires
+read_full-n-requires c κs = search rules
 
-slice-reshare-prefix-reply : tie.Need-slice-reshare-prefix-reply
-slice-reshare-prefix-reply c = search rules
+slice_bounds-reply-end : tie.Need-slice_bounds-reply-end
+slice_bounds-reply-end c = search rules
 
-slice-aggregate-reply : tie.Need-slice-aggregate-reply
-slice-aggregate-reply c = search rules
+slice_bounds-reply-end-2 : tie.Need-slice_bounds-reply-end-2
+slice_bounds-reply-end-2 c = search rules
 
-reply-requires : tie.Need-reply-requires
-reply-requires c κs = search rules
+reply-k-requires : tie.Need-reply-k-requires
+reply-k-requires c κs = search rules
 
 -- the bytes to print stand in the buffer
-within : (c : tie.After-reply) → c.reply.result ≤ length c.reply.new.1.0
-within c = laid_within (printed _) _ c.reply.ensures.0 c.reply.ensures.1
+within : (c : tie.After-reply-k) → c.reply-k.result ≤ length c.reply-k.new.out
+within c = laid_within (printed _) _ c.reply-k.ensures.0 c.reply-k.ensures.1
 
-slice-reshare-prefix-write-all : tie.Need-slice-reshare-prefix-write-all
-slice-reshare-prefix-write-all c = within c.before.before
+slice_bounds-write_all-end : tie.Need-slice_bounds-write_all-end
+slice_bounds-write_all-end c = within c.before.before
 
-slice-aggregate-write-all : tie.Need-slice-aggregate-write-all
-slice-aggregate-write-all c = sym (length-take-le _ _ (within c.before.before.before))
+slice_bounds-write_all-end-2 : tie.Need-slice_bounds-write_all-end-2
+slice_bounds-write_all-end-2 c = sym (length-take-le _ _ (within c.before.before))
 
-write-all-requires : tie.Need-write-all-requires
-write-all-requires c κs = search rules
+write_all-requires : tie.Need-write_all-requires
+write_all-requires c κs = search rules
 
-same_length : tie.Need-same-length
-same_length c = search rules
+shape_of-input : tie.Need-shape_of-input
+shape_of-input c = search rules
 
-same-length-2 : tie.Need-same-length-2
-same-length-2 c = search rules
+shape_of-out : tie.Need-shape_of-out
+shape_of-out c = search rules
 
 returns : tie.Need-returns
 returns c = search rules
@@ -45,14 +45,4 @@ returns c = search rules
 pub answer_into_spec : {M : Type 1} → statement M
 answer_into_spec =
     tie.close
-    (tie.spec
-    read-full-requires
-    slice-reshare-prefix-reply
-    slice-aggregate-reply
-    reply-requires
-    slice-reshare-prefix-write-all
-    slice-aggregate-write-all
-    write-all-requires
-    same_length
-    same-length-2
-    returns)
+    (tie.spec read_full-n-requires slice_bounds-reply-end slice_bounds-reply-end-2 reply-k-requires slice_bounds-write_all-end slice_bounds-write_all-end-2 write_all-requires shape_of-input shape_of-out returns)

@@ -49,6 +49,7 @@ at_most b [] = true
 at_most b (a ∷ l) = leb a b && at_most b l
 
 pub member_le : {c b : ℕ} (l : List ℕ) → T (at_most b l) → Memᴰ c l → c ≤ b
+member_le [] h m = elim m [ ]
 member_le {b = b} (a ∷ l) h (Memᴰ.head e) = omega (arith, leb→le a b (both (leb a b) (at_most b l) h).0, e)
 member_le {b = b} (a ∷ l) h (Memᴰ.tail m) = member_le l (both (leb a b) (at_most b l) h).1 m
 

@@ -4,7 +4,7 @@ use mathlib.Core.Path.{◌≡◌, refl, sym, ap, ap₂, ◌∙◌}
 use mathlib.Core.List.{List}
 use Prim.Native.Nat.{ℕ}
 use lib.IntN.{ℤ}
-use denote.Ref.{Bor}
+use denote.MutBor.{MutBor}
 use Rattle.plane.proofs.RootLaws.{root_unique}
 use Rattle.table.specs.Table.{table}
 use Rattle.tree.specs.Tree.{Tree}
@@ -66,7 +66,7 @@ search_settled κs a r r' b b' h k = (h ∙ sym k, refl)
 
 -- the builder: nine columns are lent, which a tree collects
 abbrev pub Ref : Type 0 → Type 0
-Ref X = Bor (List X)
+Ref X = MutBor (List X)
 
 abbrev pub columns : Ref ℕ × (Ref ℕ × (Ref ℕ × (Ref ℤ × (Ref ℤ × (Ref ℤ × (Ref ℤ × (Ref ℕ × (Ref ℕ × Unit {0})))))))) → Tree
 columns (level, (start, (count, (x_lo, (x_hi, (y_lo, (y_hi, (kits, (entries, _))))))))) =

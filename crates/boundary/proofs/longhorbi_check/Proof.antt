@@ -8,11 +8,11 @@ use Rattle.words.proofs.WordLaws.{relaid}
 use Rattle.boundary.proofs.longhorbi_check.Statement.{statement}
 use Rattle.boundary.proofs.longhorbi_check.Tie as tie
 
-returns : tie.Need-returns
-returns c = too_short _ _ c.if1.true
+returns-then-answer-lt2 : tie.Need-returns-then-answer-lt2
+returns-then-answer-lt2 c = too_short _ _ c.if-answer-lt2.true
 
-returns-2 : tie.Need-returns-2
-returns-2 c = relaid _ (ap verdict_words c.before.before.before.before.before.before.check.ensures) c.before.before.lay.ensures
+returns : tie.Need-returns
+returns c = relaid _ (ap verdict_words c.check-v.ensures) c.lay.ensures
 
 pub longhorbi_check_spec : {M : Type 1} → statement M
-longhorbi_check_spec = tie.close (tie.spec returns (λ c κs. search rules) (λ c. search rules) (λ c. search rules) (λ c κs. search rules) (λ c. search rules) returns-2)
+longhorbi_check_spec = tie.close (tie.spec returns-then-answer-lt2 (λ c κs. search rules) (λ c. search rules) (λ c. search rules) (λ c κs. search rules) (λ c. search rules) returns)

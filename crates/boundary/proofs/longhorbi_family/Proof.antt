@@ -8,53 +8,38 @@ use Rattle.words.specs.Words.{family_number}
 use Rattle.boundary.proofs.longhorbi_family.Statement.{statement}
 use Rattle.boundary.proofs.longhorbi_family.Tie as tie
 
-number : (c : tie.After-family) (f : From) → c.family.result ≡ f → family_number f ≡ family_number (family_of c.before.args.code)
-number c f e = ap family_number (sym e ∙ c.family.ensures)
+number : (c : tie.After-family-from) (f : From) → c.family-from.result ≡ f → family_number f ≡ family_number (family_of c.args.code)
+number c f e = ap family_number (sym e ∙ c.family-from.ensures)
 
-returns : tie.Need-returns
+returns-in-NoRefusal : tie.Need-returns-in-NoRefusal
 unfolding family_number
-returns c = number c.before.before _ c.enum_told.given.1
+returns-in-NoRefusal c = number c.before _ c.in-NoRefusal.is
 
-returns-2 : tie.Need-returns-2
+returns-in-Query : tie.Need-returns-in-Query
 unfolding family_number
-returns-2 c = number c.before.before _ c.enum-told2.given.1
+returns-in-Query c = number c.before _ c.in-Query.is
 
-returns-3 : tie.Need-returns-3
+returns-in-Table : tie.Need-returns-in-Table
 unfolding family_number
-returns-3 c = number c.before.before _ c.enum-told3.given.1
+returns-in-Table c = number c.before _ c.in-Table.is
 
-returns-4 : tie.Need-returns-4
+returns-in-Tree : tie.Need-returns-in-Tree
 unfolding family_number
-returns-4 c = number c.before.before _ c.enum-told4.given.1
+returns-in-Tree c = number c.before _ c.in-Tree.is
 
-returns-5 : tie.Need-returns-5
+returns-in-Search : tie.Need-returns-in-Search
 unfolding family_number
-returns-5 c = number c.before.before _ c.enum-told5.given.1
+returns-in-Search c = number c.before _ c.in-Search.is
 
-returns-6 : tie.Need-returns-6
+returns-in-Room : tie.Need-returns-in-Room
 unfolding family_number
-returns-6 c = number c.before.before _ c.enum-told6.given.1
+returns-in-Room c = number c.before _ c.in-Room.is
 
-returns-7 : tie.Need-returns-7
+returns-in-Sheet : tie.Need-returns-in-Sheet
 unfolding family_number
-returns-7 c = number c.before.before _ c.enum-told7.given.1
+returns-in-Sheet c = number c.before _ c.in-Sheet.is
 
 pub longhorbi_family_spec : {M : Type 1} → statement M
 longhorbi_family_spec =
     tie.close
-    (tie.spec
-    (λ c κs. search rules)
-    (λ c. search rules)
-    (λ c. search rules)
-    (λ c. search rules)
-    (λ c. search rules)
-    (λ c. search rules)
-    (λ c. search rules)
-    (λ c. search rules)
-    returns
-    returns-2
-    returns-3
-    returns-4
-    returns-5
-    returns-6
-    returns-7)
+    (tie.spec (λ c κs. search rules) (λ c. search rules) (λ c. search rules) (λ c. search rules) (λ c. search rules) (λ c. search rules) (λ c. search rules) (λ c. search rules) returns-in-NoRefusal returns-in-Query returns-in-Table returns-in-Tree returns-in-Search returns-in-Room returns-in-Sheet)

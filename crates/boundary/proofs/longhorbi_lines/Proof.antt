@@ -8,18 +8,18 @@ use Rattle.words.proofs.LineLaws.{no_lines, some_lines}
 use Rattle.boundary.proofs.longhorbi_lines.Statement.{statement}
 use Rattle.boundary.proofs.longhorbi_lines.Tie as tie
 
+returns-then-not-is_found : tie.Need-returns-then-not-is_found
+returns-then-not-is_found c = no_lines _ _ _ (sym c.is_found.ensures ∙ c.if-not-is_found.true)
+
+found_of-requires : tie.Need-found_of-requires
+found_of-requires c κs = sym c.is_found.ensures ∙ c.if-not-is_found.false
+
 returns : tie.Need-returns
-returns c = no_lines _ _ _ (sym c.before.is_found.ensures ∙ not-true _ c.if1.true)
-
-found-of-requires : tie.Need-found-of-requires
-found-of-requires c κs = sym c.before.is_found.ensures ∙ not-false _ c.if1.false
-
-returns-2 : tie.Need-returns-2
-returns-2 c =
+returns c =
     let l : tie.After-lines = c.before.before in
-    let f : tie.After-found-of = l.before.before in
-    let o : tie.Else1 = f.before in
-    relaid _ (some_lines _ _ f.found_of.result f.found_of.ensures (sym o.before.is_found.ensures ∙ not-false _ o.if1.false)) l.lines.ensures
+    let f : tie.After-found_of = l.before.before in
+    let o : tie.Else-not-is_found = f.before in
+    relaid _ (some_lines _ _ f.found_of.result f.found_of.ensures (sym o.is_found.ensures ∙ o.if-not-is_found.false)) l.lines.ensures
 
 pub longhorbi_lines_spec : {M : Type 1} → statement M
-longhorbi_lines_spec = tie.close (tie.spec (λ c κs. search rules) returns found-of-requires (λ c κs. search rules) (λ c. search rules) returns-2)
+longhorbi_lines_spec = tie.close (tie.spec (λ c κs. search rules) returns-then-not-is_found found_of-requires (λ c κs. search rules) (λ c. search rules) returns)

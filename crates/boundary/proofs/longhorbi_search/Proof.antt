@@ -9,11 +9,11 @@ use Rattle.words.proofs.SearchLaws.{no_room}
 use Rattle.boundary.proofs.longhorbi_search.Statement.{statement}
 use Rattle.boundary.proofs.longhorbi_search.Tie as tie
 
-returns : tie.Need-returns
-returns c = too_short _ _ (no_room _ _ _ _ c.before.before.before.before.before.before.before.before.args.answer.now c.if1.true)
+returns-then-answer-lt13 : tie.Need-returns-then-answer-lt13
+returns-then-answer-lt13 c = too_short _ _ (no_room _ _ _ _ c.args.answer.now c.if-answer-lt13.true)
 
-returns-2 : tie.Need-returns-2
-returns-2 c = relaid _ (c.before.before.before.before.before.found-words.ensures ∙ ap found_words c.before.before.before.before.before.before.search.ensures) c.before.before.lay.ensures
+returns : tie.Need-returns
+returns c = relaid _ (c.found_words-words.ensures ∙ ap found_words c.search-f.ensures) c.lay.ensures
 
 pub longhorbi_search_spec : {M : Type 1} → statement M
-longhorbi_search_spec = tie.close (tie.spec returns (λ c κs. search rules) (λ c κs. search rules) (λ c. search rules) (λ c κs. search rules) (λ c. search rules) returns-2)
+longhorbi_search_spec = tie.close (tie.spec returns-then-answer-lt13 (λ c κs. search rules) (λ c κs. search rules) (λ c. search rules) (λ c κs. search rules) (λ c. search rules) returns)

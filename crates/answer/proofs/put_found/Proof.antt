@@ -13,11 +13,11 @@ use Rattle.answer.proofs.put_found.Statement.{statement}
 use Rattle.answer.proofs.put_found.Tie as tie
 
 -- the lines from the group on, and from the measure on
-abbrev from-group : tie.Start → List ℕ
-from-group s = group_lines (kinds s.args.want) s.args.places.now ++ end_line
+abbrev from_group : tie.Start → List ℕ
+from_group s = group_lines (kinds s.args.want) s.args.places.now ++ end_line
 
-abbrev from-measure : tie.Start → List ℕ
-from-measure s = measure_lines s.args.squared s.args.steps ++ from-group s
+abbrev from_measure : tie.Start → List ℕ
+from_measure s = measure_lines s.args.squared s.args.steps ++ from_group s
 
 -- the places of the code before each call
 abbrev start : tie.After-put-a → tie.Start
@@ -29,26 +29,26 @@ word c = c.before.before.before.before
 abbrev measure : tie.After-put_group-c → tie.After-put_measure-b
 measure c = c.before.before.before.before
 
-whole : (s : tie.Start) → 0 + length (word_line "answer=" (ascii "found") ++ from-measure s) ≤ length s.args.out.now
+whole : (s : tie.Start) → 0 + length (word_line "answer=" (ascii "found") ++ from_measure s) ≤ length s.args.out.now
 unfolding found_lines
 whole s = omega (arith, s.requires)
 
 put-a-requires : tie.Need-put-a-requires
 put-a-requires c κs =
     let s = c.before.before.before.before.before in
-    room_first (word_line "answer=" (ascii "found")) (from-measure s) _ _ (whole s)
+    room_first (word_line "answer=" (ascii "found")) (from_measure s) _ _ (whole s)
 
-behind_word : (c : tie.After-put-a) → c.put-a.result + length (from-measure (start c)) ≤ length c.put-a.new.out
-behind_word c = room_after (from-measure (start c)) (whole (start c)) c.put-a.ensures
+behind_word : (c : tie.After-put-a) → c.put-a.result + length (from_measure (start c)) ≤ length c.put-a.new.out
+behind_word c = room_after (from_measure (start c)) (whole (start c)) c.put-a.ensures
 
 put_measure-b-requires : tie.Need-put_measure-b-requires
 put_measure-b-requires c κs =
     let p = c.before.before.before in
     let s = start p in
-    room_first (measure_lines s.args.squared s.args.steps) (from-group s) _ _ (behind_word p)
+    room_first (measure_lines s.args.squared s.args.steps) (from_group s) _ _ (behind_word p)
 
-behind_measure : (c : tie.After-put_measure-b) → c.put_measure-b.result + length (from-group (start (word c))) ≤ length c.put_measure-b.new.out
-behind_measure c = room_after (from-group (start (word c))) (behind_word (word c)) c.put_measure-b.ensures
+behind_measure : (c : tie.After-put_measure-b) → c.put_measure-b.result + length (from_group (start (word c))) ≤ length c.put_measure-b.new.out
+behind_measure c = room_after (from_group (start (word c))) (behind_word (word c)) c.put_measure-b.ensures
 
 put_group-c-requires : tie.Need-put_group-c-requires
 put_group-c-requires c κs =

@@ -16,11 +16,11 @@ use Rattle.answer.proofs.put_refused.Tie as tie
 abbrev from_at : tie.Start → List ℕ
 from_at s = number_line "at=" s.args.at ++ end_line
 
-abbrev from-family : tie.Start → List ℕ
-from-family s = word_line "from=" (family_word (family_of s.args.code)) ++ from_at s
+abbrev from_family : tie.Start → List ℕ
+from_family s = word_line "from=" (family_word (family_of s.args.code)) ++ from_at s
 
-abbrev from-code : tie.Start → List ℕ
-from-code s = number_line "code=" s.args.code ++ from-family s
+abbrev from_code : tie.Start → List ℕ
+from_code s = number_line "code=" s.args.code ++ from_family s
 
 -- the places of the code before each call
 abbrev start : tie.After-put-a → tie.Start
@@ -35,26 +35,26 @@ code c = c.before.before.before.before
 abbrev family : tie.After-put_number_line-d → tie.After-put_family-c
 family c = c.before.before.before.before.before.before
 
-whole : (s : tie.Start) → 0 + length (word_line "answer=" (ascii "refused") ++ from-code s) ≤ length s.args.out.now
+whole : (s : tie.Start) → 0 + length (word_line "answer=" (ascii "refused") ++ from_code s) ≤ length s.args.out.now
 unfolding refused_lines
 whole s = omega (arith, s.requires)
 
 put-a-requires : tie.Need-put-a-requires
 put-a-requires c κs =
     let s = c.before.before.before.before in
-    room_first (word_line "answer=" (ascii "refused")) (from-code s) _ _ (whole s)
+    room_first (word_line "answer=" (ascii "refused")) (from_code s) _ _ (whole s)
 
-behind_word : (c : tie.After-put-a) → c.put-a.result + length (from-code (start c)) ≤ length c.put-a.new.out
-behind_word c = room_after (from-code (start c)) (whole (start c)) c.put-a.ensures
+behind_word : (c : tie.After-put-a) → c.put-a.result + length (from_code (start c)) ≤ length c.put-a.new.out
+behind_word c = room_after (from_code (start c)) (whole (start c)) c.put-a.ensures
 
 put_number_line-b-requires : tie.Need-put_number_line-b-requires
 put_number_line-b-requires c κs =
     let p = c.before.before.before.before.before in
     let s = start p in
-    room_first (number_line "code=" s.args.code) (from-family s) _ _ (behind_word p)
+    room_first (number_line "code=" s.args.code) (from_family s) _ _ (behind_word p)
 
-behind_code : (c : tie.After-put_number_line-b) → c.put_number_line-b.result + length (from-family (start (word c))) ≤ length c.put_number_line-b.new.out
-behind_code c = room_after (from-family (start (word c))) (behind_word (word c)) c.put_number_line-b.ensures
+behind_code : (c : tie.After-put_number_line-b) → c.put_number_line-b.result + length (from_family (start (word c))) ≤ length c.put_number_line-b.new.out
+behind_code c = room_after (from_family (start (word c))) (behind_word (word c)) c.put_number_line-b.ensures
 
 put_family-c-requires : tie.Need-put_family-c-requires
 put_family-c-requires c κs =

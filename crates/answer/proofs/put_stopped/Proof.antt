@@ -11,8 +11,8 @@ use Rattle.answer.proofs.put_stopped.Statement.{statement}
 use Rattle.answer.proofs.put_stopped.Tie as tie
 
 -- the lines from the steps on
-abbrev from-steps : tie.Start → List ℕ
-from-steps s = number_line "steps=" s.args.steps ++ end_line
+abbrev from_steps : tie.Start → List ℕ
+from_steps s = number_line "steps=" s.args.steps ++ end_line
 
 -- the places of the code before each call
 abbrev start : tie.After-put_word_line-a → tie.Start
@@ -21,17 +21,17 @@ start c = c.before.before.before.before.before.before
 abbrev word : tie.After-put_number_line-b → tie.After-put_word_line-a
 word c = c.before.before.before.before.before.before
 
-whole : (s : tie.Start) → 0 + length (word_line "answer=" s.args.word.now ++ from-steps s) ≤ length s.args.out.now
+whole : (s : tie.Start) → 0 + length (word_line "answer=" s.args.word.now ++ from_steps s) ≤ length s.args.out.now
 unfolding stopped_lines
 whole s = omega (arith, s.requires)
 
 put_word_line-a-requires : tie.Need-put_word_line-a-requires
 put_word_line-a-requires c κs =
     let s = c.before.before.before.before.before in
-    room_first (word_line "answer=" s.args.word.now) (from-steps s) _ _ (whole s)
+    room_first (word_line "answer=" s.args.word.now) (from_steps s) _ _ (whole s)
 
-behind_word : (c : tie.After-put_word_line-a) → c.put_word_line-a.result + length (from-steps (start c)) ≤ length c.put_word_line-a.new.out
-behind_word c = room_after (from-steps (start c)) (whole (start c)) c.put_word_line-a.ensures
+behind_word : (c : tie.After-put_word_line-a) → c.put_word_line-a.result + length (from_steps (start c)) ≤ length c.put_word_line-a.new.out
+behind_word c = room_after (from_steps (start c)) (whole (start c)) c.put_word_line-a.ensures
 
 put_number_line-b-requires : tie.Need-put_number_line-b-requires
 put_number_line-b-requires c κs =

@@ -47,14 +47,14 @@ boxes s = rule25 (table_at s) (sides_at s) (shape_at s) ∷ []
 abbrev last : tie.Start → List Rule
 last s = rule26 (table_at s) s.args.kits.now (shape_at s) ∷ []
 
-abbrev after-names : tie.Start → List Rule
-after-names s = distinct s ++ (boxes s ++ last s)
+abbrev after_names : tie.Start → List Rule
+after_names s = distinct s ++ (boxes s ++ last s)
 
-abbrev after-runs : tie.Start → List Rule
-after-runs s = names s ++ after-names s
+abbrev after_runs : tie.Start → List Rule
+after_runs s = names s ++ after_names s
 
 abbrev after_first : tie.Start → List Rule
-after_first s = rules22 (shape_at s) ++ after-runs s
+after_first s = rules22 (shape_at s) ++ after_runs s
 
 -- where each part begins
 abbrev begin1 : tie.Else-a-ne0 → tie.Start
@@ -92,13 +92,13 @@ runs-b-requires : tie.Need-runs-b-requires
 runs-b-requires c κs = let k = columns c in (k.few, (k.level, (k.start, k.count)))
 
 returns-then-b-ne0 : tie.Need-returns-then-b-ne0
-returns-then-b-ne0 c = let d = c.before.before in let s = begin1 d.before in on1 d.before (stopped (rules22 (shape_at s)) (after-runs s) d.runs-b.result (d.runs-b.ensures s.args.entries.now) c.if-b-ne0.true)
+returns-then-b-ne0 c = let d = c.before.before in let s = begin1 d.before in on1 d.before (stopped (rules22 (shape_at s)) (after_runs s) d.runs-b.result (d.runs-b.ensures s.args.entries.now) c.if-b-ne0.true)
 
-on2 : (c : tie.Else-b-ne0) {w : Verdict} → w ≡ verdict (after-runs (begin2 c)) → w ≡ verdict (all (begin2 c))
+on2 : (c : tie.Else-b-ne0) {w : Verdict} → w ≡ verdict (after_runs (begin2 c)) → w ≡ verdict (all (begin2 c))
 on2 c e =
     let d = c.before.before in
     let s = begin2 c in
-    on1 d.before (passed_on (rules22 (shape_at s)) (after-runs s) d.runs-b.result (d.runs-b.ensures s.args.entries.now) c.if-b-ne0.false _ e)
+    on1 d.before (passed_on (rules22 (shape_at s)) (after_runs s) d.runs-b.result (d.runs-b.ensures s.args.entries.now) c.if-b-ne0.false _ e)
 
 runs : (c : tie.Else-b-ne0) → AllHold (rules22 (shape_at (begin2 c)))
 runs c = let d = c.before.before in let s = begin2 c in passed (rules22 (shape_at s)) [] d.runs-b.result (d.runs-b.ensures s.args.entries.now) c.if-b-ne0.false
@@ -107,10 +107,10 @@ names-c-requires : tie.Need-names-c-requires
 names-c-requires c κs = (columns c.before.before.before, runs c)
 
 returns-then-c-ne0 : tie.Need-returns-then-c-ne0
-returns-then-c-ne0 c = let d = c.before.before in let s = begin2 d.before in on2 d.before (stopped (names s) (after-names s) d.names-c.result d.names-c.ensures c.if-c-ne0.true)
+returns-then-c-ne0 c = let d = c.before.before in let s = begin2 d.before in on2 d.before (stopped (names s) (after_names s) d.names-c.result d.names-c.ensures c.if-c-ne0.true)
 
-on3 : (c : tie.Else-c-ne0) {w : Verdict} → w ≡ verdict (after-names (begin3 c)) → w ≡ verdict (all (begin3 c))
-on3 c e = let d = c.before.before in let s = begin3 c in on2 d.before (passed_on (names s) (after-names s) d.names-c.result d.names-c.ensures c.if-c-ne0.false _ e)
+on3 : (c : tie.Else-c-ne0) {w : Verdict} → w ≡ verdict (after_names (begin3 c)) → w ≡ verdict (all (begin3 c))
+on3 c e = let d = c.before.before in let s = begin3 c in on2 d.before (passed_on (names s) (after_names s) d.names-c.result d.names-c.ensures c.if-c-ne0.false _ e)
 
 named : (c : tie.Else-c-ne0) → let s = begin3 c in Holds (rule23 (length s.args.x.now) (shape_at s))
 named c = let d = c.before.before in (passed (names (begin3 c)) [] d.names-c.result d.names-c.ensures c.if-c-ne0.false).0

@@ -48,20 +48,20 @@ east c = reads_at (ascii "x=") (coordinate 1000000) _ (at_x (second c)) _ _ (num
 abbrev third : tie.Else-not-c → tie.Else-not-b
 third c = c.before.before.before.before.before.before.before
 
-abbrev at-kit : tie.Else-not-c → ℕ
-at-kit c = at_y (third c) + c.quick_coordinate-c.result.count
+abbrev at_kit : tie.Else-not-c → ℕ
+at_kit c = at_y (third c) + c.quick_coordinate-c.result.count
 
-north : (c : tie.Else-not-c) → (let s = (start (second (third c))).args.src.now in (at-kit c ≤ length s) × ((n : ℕ) → read_line (ascii "y=") (coordinate 1000000) n (drop (at_y (third c)) s) ≡ got c.quick_coordinate-c.result.value (drop (at-kit c) s)))
+north : (c : tie.Else-not-c) → (let s = (start (second (third c))).args.src.now in (at_kit c ≤ length s) × ((n : ℕ) → read_line (ascii "y=") (coordinate 1000000) n (drop (at_y (third c)) s) ≡ got c.quick_coordinate-c.result.value (drop (at_kit c) s)))
 north c = reads_at (ascii "y=") (coordinate 1000000) _ (at_y (third c)) _ _ (east (third c)).0 (c.quick_coordinate-c.ensures (not-false _ c.if-not-c.false))
 
 abbrev fourth : tie.Else-not-d → tie.Else-not-c
 fourth c = c.before.before.before.before.before.before.before
 
 abbrev at_next : tie.Else-not-d → ℕ
-at_next c = at-kit (fourth c) + c.quick_bits-d.result.count
+at_next c = at_kit (fourth c) + c.quick_bits-d.result.count
 
-held : (c : tie.Else-not-d) → (let s = (start (second (third (fourth c)))).args.src.now in (at_next c ≤ length s) × ((n : ℕ) → read_line (ascii "kit=") bits n (drop (at-kit (fourth c)) s) ≡ got c.quick_bits-d.result.value (drop (at_next c) s)))
-held c = reads_at (ascii "kit=") bits _ (at-kit (fourth c)) _ _ (north (fourth c)).0 (c.quick_bits-d.ensures (not-false _ c.if-not-d.false))
+held : (c : tie.Else-not-d) → (let s = (start (second (third (fourth c)))).args.src.now in (at_next c ≤ length s) × ((n : ℕ) → read_line (ascii "kit=") bits n (drop (at_kit (fourth c)) s) ≡ got c.quick_bits-d.result.value (drop (at_next c) s)))
+held c = reads_at (ascii "kit=") bits _ (at_kit (fourth c)) _ _ (north (fourth c)).0 (c.quick_bits-d.ensures (not-false _ c.if-not-d.false))
 
 slice_bounds-quick_number-count : tie.Need-slice_bounds-quick_number-count
 slice_bounds-quick_number-count c = search rules

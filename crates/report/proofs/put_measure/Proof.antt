@@ -13,8 +13,8 @@ use Rattle.report.proofs.put_measure.Statement.{statement}
 use Rattle.report.proofs.put_measure.Tie as tie
 
 -- the lines from the distance on
-abbrev from-distance : tie.Start → List ℕ
-from-distance s = number_line "distance=" (root_of s.args.squared) ++ number_line "steps=" s.args.steps
+abbrev from_distance : tie.Start → List ℕ
+from_distance s = number_line "distance=" (root_of s.args.squared) ++ number_line "steps=" s.args.steps
 
 -- the places of the code before each call
 abbrev start : tie.After-put_number_line-a → tie.Start
@@ -33,10 +33,10 @@ distance c = puts_text (ap (number_line "distance=") (root (squared c))) c.put_n
 put_number_line-a-requires : tie.Need-put_number_line-a-requires
 put_number_line-a-requires c κs =
     let s = c.before.before.before.before.before in
-    room_first (number_line "squared=" s.args.squared) (from-distance s) _ _ s.requires
+    room_first (number_line "squared=" s.args.squared) (from_distance s) _ _ s.requires
 
-behind_squared : (c : tie.After-put_number_line-a) → c.put_number_line-a.result + length (from-distance (start c)) ≤ length c.put_number_line-a.new.out
-behind_squared c = room_after (from-distance (start c)) (start c).requires c.put_number_line-a.ensures
+behind_squared : (c : tie.After-put_number_line-a) → c.put_number_line-a.result + length (from_distance (start c)) ≤ length c.put_number_line-a.new.out
+behind_squared c = room_after (from_distance (start c)) (start c).requires c.put_number_line-a.ensures
 
 put_number_line-b-requires : tie.Need-put_number_line-b-requires
 put_number_line-b-requires c κs =

@@ -8,8 +8,8 @@ use Rattle.plane.specs.Plane.{outside, least, greatest}
 use Rattle.plane.specs.Run.{joined}
 use Rattle.table.specs.Table.{Table, table, dec_even, dec_ranged}
 use Rattle.verdict.specs.Rules.{verdict, says}
-use Rattle.tree.specs.Tree.{Shape, Tree, owner}
-use Rattle.tree.specs.Rules.{check_rules, rules22, dec_counted, dec_shaped, dec_may_name, dec_new, dec_box}
+use Rattle.tree.specs.Tree.{Tree, owner}
+use Rattle.tree.specs.Rules.{check_rules, dec_counted, dec_shaped, dec_may_name, dec_new, dec_box}
 use Rattle.tree.specs.Lent.{shape, sides, tree}
 
 -- harbour H

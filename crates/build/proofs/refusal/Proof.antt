@@ -4,7 +4,6 @@ use mathlib.Core.Path.{◌≡◌}
 use mathlib.Core.List.{[], ◌∷◌}
 use Prim.Native.Nat.{◌≤◌}
 use borrow.Author.Rules.{rules}
-use borrow.Author.Tests.{not-true, not-false}
 use Rattle.table.specs.Table.{Table, table, places, table_rules}
 use Rattle.table.proofs.TableLaws.{valid_even}
 use Rattle.verdict.specs.Rules.{verdict}

@@ -2,7 +2,6 @@ use mathlib.Core.Path.{ap, ap₂}
 use Rattle.plane.specs.Plane.{box}
 use Rattle.plane.specs.declared.Box.{Box}
 use borrow.Author.Rules.{rules}
-use borrow.Author.Tests.{not-true, not-false}
 use Rattle.tree.proofs.DecidesLaws.{decides_no, decides_by}
 use Rattle.inspect.proofs.same_box.Statement.{statement}
 use Rattle.inspect.proofs.same_box.Tie as tie

@@ -3,7 +3,6 @@ use mathlib.Core.Path.{◌≡◌, ap}
 use mathlib.Core.Bool.{true}
 use native.Mathlib.Omega.{arith}
 use lib.ListN.{length, drop, length-drop, length-take}
-use borrow.Author.Tests.{not-false}
 use Rattle.lines.specs.Form.{bits}
 use Rattle.lines.specs.Line.{Keyed}
 use Rattle.lines.proofs.FormLaws.{sound_bits}

@@ -6,7 +6,6 @@ use mathlib.Core.Path.{◌≡◌, ap, subst, sym}
 use mathlib.Core.Bool.{true}
 use native.Mathlib.Omega.{arith}
 use lib.ListN.{length, drop, length-drop, length-take}
-use borrow.Author.Tests.{not-false}
 use Rattle.lines.specs.Form.{coordinate}
 use Rattle.lines.specs.Line.{Keyed}
 use Rattle.lines.proofs.FormLaws.{sound_coordinate}

@@ -1,7 +1,6 @@
 use Rattle.lines.proofs.DigitLaws.{unglyph_low}
 use mathlib.Core.Path.{subst, sym, ◌∙◌}
 use Prim.Native.Nat.{◌*◌, ℕ, ◌+◌, ◌-◌, ◌≤◌}
-use borrow.Author.Tests.{not-true, not-false}
 use native.Mathlib.Omega.{arith}
 use lib.ListN.{length, get_or}
 use Rattle.readers.proofs.ParseLaws.{Sofar, sofar_none, sofar_more, bad_digit, bad_lead, bad_most, good, digit_make, digit_most}

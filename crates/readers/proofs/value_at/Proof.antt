@@ -1,4 +1,3 @@
-use borrow.Author.Tests.{not-true, not-false}
 use Rattle.readers.proofs.ReadLaws.{value_missing, value_other, value_there}
 use borrow.Author.Rules.{rules}
 use Rattle.readers.proofs.value_at.Statement.{statement}

@@ -4,7 +4,6 @@ use mathlib.Core.Logic.{⊎_elim}
 use Prim.Native.Nat.{ℕ}
 use native.Mathlib.Omega.{arith}
 use borrow.Author.Rules.{rules}
-use borrow.Author.Tests.{not-true, not-false}
 use Rattle.verdict.specs.Rules.{verdict, says}
 use Rattle.verdict.proofs.RuleLaws.{breaks_at, holds_all}
 use Rattle.tree.specs.declared.Lengths.{Lengths}

@@ -1,4 +1,4 @@
-/* Longhorbi for C: the calls of target/staticlib/libboundary.a, which `rt staticlib boundary` makes (x86-64 Linux).
+/* Longhorbi for C: the calls of crates/boundary/out/libboundary.a, which `rt lib` in crates/boundary makes (x86-64 Linux).
  *
  * What each call does is proved (crates/boundary/src/lib.rt has the contracts), for every value of every argument, as long as the caller
  * keeps what follows. Nothing checks it, on either side:

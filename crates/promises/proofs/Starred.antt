@@ -18,7 +18,7 @@ use Rattle.table.specs.Table.{Table, table, table_rules, dec_even, dec_in_range,
 use Rattle.order.specs.Tab.{tab}
 use Rattle.tree.specs.Tree.{Tree, owner}
 use Rattle.tree.specs.Lent.{shape, sides, tree}
-use Rattle.tree.specs.Rules.{check_rules, dec_room, dec_counted, dec_shaped, dec_may_name, dec_new, decZ, dec_span, dec_box}
+use Rattle.tree.specs.Rules.{check_rules, dec_room, dec_counted, dec_shaped, dec_may_name, dec_new, dec_z, dec_span, dec_box}
 use Rattle.walks.specs.Allowance.{stopped}
 use Rattle.walks.specs.Best.{improve}
 use Rattle.walks.specs.Order.{first_by, before}
@@ -111,5 +111,5 @@ soundings =
 
 -- all of them hold
 pub all_hold : map (λ w. w.0) soundings ≡ map (λ w. w.1) soundings
-unfolding outside squared_of measured rise least greatest joined first_not dec_all lowest verdict kinds kinds_from all_held padded dec_even dec_in_range dec_ranged tab owner dec_room dec_counted dec_shaped dec_may_name dec_new decZ dec_span dec_box Dec.and Dec.not dec_le dec_lt ℕ_discrete stopped improve first_by before final chain dropped walk farthest spread diameter entries_of lead topmost levels group_of replaced opened boxes_in too_far begins outcome searched root_in root_of
+unfolding outside squared_of measured rise least greatest joined first_not dec_all lowest verdict kinds kinds_from all_held padded dec_even dec_in_range dec_ranged tab owner dec_room dec_counted dec_shaped dec_may_name dec_new dec_z dec_span dec_box Dec.and Dec.not dec_le dec_lt ℕ_discrete stopped improve first_by before final chain dropped walk farthest spread diameter entries_of lead topmost levels group_of replaced opened boxes_in too_far begins outcome searched root_in root_of
 all_hold = refl

@@ -13,7 +13,7 @@ use Rattle.lines.specs.Line.{Got, refused, got, read_line}
 use Rattle.readers.specs.Readers.{Read}
 use Rattle.plane.proofs.is_outside.Reads as is-outside
 use Rattle.plane.proofs.is_off.Reads as is-off
-use Rattle.plane.proofs.apart_of.Reads as Apart-of
+use Rattle.plane.proofs.apart_of.Reads as apart_of
 use Rattle.plane.proofs.box_join.Reads as box-join
 use Rattle.kit.proofs.holds.Reads as holds
 use Rattle.kit.proofs.holds_all.Reads as holds_all
@@ -24,7 +24,7 @@ use Rattle.arrange.proofs.write_order.Reads as write-order
 use Rattle.tree.proofs.wide8.Reads as wide8
 use Rattle.tree.proofs.wide16.Reads as wide16
 use Rattle.tree.proofs.has_room.Reads as has_room
-use Rattle.tree.proofs.box_at.Reads as box_at_lem
+use Rattle.tree.proofs.box_at.Reads as box_at
 use Rattle.tree.proofs.run_box.Reads as run-box
 use Rattle.tree.proofs.run_kit.Reads as run-kit
 use Rattle.shapes.proofs.counted.Reads as counted
@@ -47,7 +47,7 @@ use Rattle.print.proofs.put_word_line.Reads as put-word-line
 use Rattle.print.proofs.put_number_line.Reads as put-number-line
 use Rattle.print.proofs.put_bits_line.Reads as put-bits-line
 use Rattle.print.proofs.put_signed_line.Reads as put-signed-line
-use Rattle.print.proofs.width_of.Reads as width_of_lem
+use Rattle.print.proofs.width_of.Reads as width_of
 use Rattle.print.proofs.signed_width_of.Reads as signed-width-of
 use Rattle.promises.specs.Settles.{Settles, nothing}
 
@@ -80,7 +80,7 @@ pub is_off_settled : Settles nothing is-off.Post
 is_off_settled κs a r r' b b' h k = (h ∙ sym k, refl)
 
 -- the squared distance of two boxes
-pub apart_of_settled : Settles nothing Apart-of.Post
+pub apart_of_settled : Settles nothing apart_of.Post
 apart_of_settled κs a r r' b b' h k = (h ∙ sym k, refl)
 
 -- the tightest box around two
@@ -123,7 +123,7 @@ pub has_room_settled : Settles nothing has_room.Post
 has_room_settled κs a r r' b b' h k = (decides_one h k, refl)
 
 -- the box of a node or of a place
-pub box_at_settled : Settles nothing box_at_lem.Post
+pub box_at_settled : Settles nothing box_at.Post
 box_at_settled κs a r r' b b' h k = (h ∙ sym k, refl)
 
 -- the box of a run
@@ -205,7 +205,7 @@ pub put_signed_line_settled : Settles (λ b. b.0.now) put-signed-line.Post
 put_signed_line_settled κs a r r' b b' h k = (h.end ∙ sym k.end, h.bytes ∙ sym k.bytes)
 
 -- how many digits a number has, and how many bytes one with a sign
-pub width_of_settled : Settles nothing width_of_lem.Post
+pub width_of_settled : Settles nothing width_of.Post
 width_of_settled κs a r r' b b' h k = (h ∙ sym k, refl)
 
 pub signed_width_of_settled : Settles nothing signed-width-of.Post

@@ -120,16 +120,16 @@ unfoldable pub dec_new : (s : Shape) (i : ℕ) → Dec (New s i)
 unfolding dec_all Dec.not ℕ_discrete
 dec_new s i = dec_all (λ j. Dec.not (Thing-discrete ℕ_discrete (named s j) (named s i))) i
 
-unfoldable pub decZ : (a b : ℤ) → Dec (a ≡ b)
+unfoldable pub dec_z : (a b : ℤ) → Dec (a ≡ b)
 unfolding ℕ_discrete
-decZ (pos a) (pos b) = dec_by (λ (e : a ≡ b). ap pos e) (λ (e : pos a ≡ pos b). cc) (ℕ_discrete a b)
-decZ (pos a) (negsuc b) = no (pos-ne-negsuc a b)
-decZ (negsuc a) (pos b) = no (λ e. pos-ne-negsuc b a (sym e))
-decZ (negsuc a) (negsuc b) = dec_by (λ (e : a ≡ b). ap negsuc e) (λ (e : negsuc a ≡ negsuc b). cc) (ℕ_discrete a b)
+dec_z (pos a) (pos b) = dec_by (λ (e : a ≡ b). ap pos e) (λ (e : pos a ≡ pos b). cc) (ℕ_discrete a b)
+dec_z (pos a) (negsuc b) = no (pos-ne-negsuc a b)
+dec_z (negsuc a) (pos b) = no (λ e. pos-ne-negsuc b a (sym e))
+dec_z (negsuc a) (negsuc b) = dec_by (λ (e : a ≡ b). ap negsuc e) (λ (e : negsuc a ≡ negsuc b). cc) (ℕ_discrete a b)
 
 unfoldable pub dec_span : (s t : Span) → Dec (s ≡ t)
-unfolding Dec.and decZ
-dec_span s t = dec_by (λ w. ap₂ (λ (l h : ℤ). record { lo = l; hi = h }) w.0 w.1) (λ e. (ap (λ (u : Span). u.lo) e, ap (λ (u : Span). u.hi) e)) (Dec.and (decZ _ _) (decZ _ _))
+unfolding Dec.and dec_z
+dec_span s t = dec_by (λ w. ap₂ (λ (l h : ℤ). record { lo = l; hi = h }) w.0 w.1) (λ e. (ap (λ (u : Span). u.lo) e, ap (λ (u : Span). u.hi) e)) (Dec.and (dec_z _ _) (dec_z _ _))
 
 unfoldable pub dec_box : (b c : Box) → Dec (b ≡ c)
 unfolding Dec.and dec_span

@@ -22,8 +22,8 @@ begin c = c.before.before.before.before.before.before.before.before
 abbrev table_at : tie.Start → Table
 table_at s = table s.args.x.now s.args.y.now s.args.kit.now
 
-abbrev treeAt : tie.Start → Tree
-treeAt s =
+abbrev tree_at : tie.Start → Tree
+tree_at s =
     tree (shape 0 0 s.args.level.now s.args.start.now s.args.count.now s.args.entries.now)
     (sides s.args.x_lo.now s.args.x_hi.now s.args.y_lo.now s.args.y_hi.now) s.args.kits.now
 
@@ -31,14 +31,14 @@ refusal-v-requires : tie.Need-refusal-v-requires
 refusal-v-requires c κs = search rules
 
 returns-then-v-ne0 : tie.Need-returns-then-v-ne0
-returns-then-v-ne0 c = let s = begin c.before in (c.refusal-v.ensures, kept _ (table_at s) (treeAt s) c.if-v-ne0.true)
+returns-then-v-ne0 c = let s = begin c.before in (c.refusal-v.ensures, kept _ (table_at s) (tree_at s) c.if-v-ne0.true)
 
 -- nothing is refused
-allowed : (c : tie.Else-v-ne0) → let s = begin c.before in AllHold (build_rules (table_at s) (lengths (treeAt s)))
+allowed : (c : tie.Else-v-ne0) → let s = begin c.before in AllHold (build_rules (table_at s) (lengths (tree_at s)))
 allowed c =
     let r = c.refusal-v in
     let s = begin c.before in
-    passed (build_rules (table_at s) (lengths (treeAt s))) [] r.result r.ensures c.if-v-ne0.false
+    passed (build_rules (table_at s) (lengths (tree_at s))) [] r.result r.ensures c.if-v-ne0.false
 
 valid : (c : tie.Else-v-ne0) → Valid (table_at (begin c.before))
 valid c = ((allowed c).0, ((allowed c).1.0, tt))
@@ -58,7 +58,7 @@ start c = begin (passing c).before
 needed : (c : tie.After-count_listed-listed) → Needs (table_at (start c)) c.count_nodes-nodes.result c.count_listed-listed.result
 needed c = record { few = (valid_even (valid (passing c))).few; nodes_is = c.count_nodes-nodes.ensures; listed_is = c.count_listed-listed.ensures }
 
-room : (c : tie.After-count_listed-listed) → Room c.count_nodes-nodes.result c.count_listed-listed.result (lengths (treeAt (start c)))
+room : (c : tie.After-count_listed-listed) → Room c.count_nodes-nodes.result c.count_listed-listed.result (lengths (tree_at (start c)))
 room c = room_of (needed c) _ (allowed (passing c)).1.1.0
 
 fill_runs-requires : tie.Need-fill_runs-requires
@@ -126,7 +126,7 @@ returns c =
     let l = counted (runs e) in
     let u = (runs e).fill_runs.ensures in
     let v = f.fill_values.ensures in
-    (sym (all_hold _ (allowed (passing l))), written (needed l) (treeAt (start l)) u.0 u.1.0 u.1.1 e.fill_entries.ensures v.0 v.1.0 v.1.1.0 v.1.1.1.0 v.1.1.1.1)
+    (sym (all_hold _ (allowed (passing l))), written (needed l) (tree_at (start l)) u.0 u.1.0 u.1.1 e.fill_entries.ensures v.0 v.1.0 v.1.1.0 v.1.1.1.0 v.1.1.1.1)
 
 pub build_spec : {M : Type 1} → statement M
 build_spec =

@@ -25,15 +25,15 @@ shape_at s = shape s.args.nodes s.args.listed s.args.level.now s.args.start.now 
 abbrev sides_at : tie.Start → Sides
 sides_at s = sides s.args.x_lo.now s.args.x_hi.now s.args.y_lo.now s.args.y_hi.now
 
-abbrev treeAt : tie.Start → Tree
-treeAt s = tree (shape_at s) (sides_at s) s.args.kits.now
+abbrev tree_at : tie.Start → Tree
+tree_at s = tree (shape_at s) (sides_at s) s.args.kits.now
 
 -- the rules, and those after each part
 abbrev all : tie.Start → List Rule
-all s = tree_rules (table_at s) (treeAt s)
+all s = tree_rules (table_at s) (tree_at s)
 
 abbrev first : tie.Start → List Rule
-first s = rule21 (length s.args.x.now) s.args.nodes s.args.listed (lengths (treeAt s)) ∷ []
+first s = rule21 (length s.args.x.now) s.args.nodes s.args.listed (lengths (tree_at s)) ∷ []
 
 abbrev names : tie.Start → List Rule
 names s = rule23 (length s.args.x.now) (shape_at s) ∷ []
@@ -79,7 +79,7 @@ returns-then-a-ne0 : tie.Need-returns-then-a-ne0
 returns-then-a-ne0 c = let d = c.before.before in let s = d.before.before.before.before.before.before.before in stopped (first s) (after_first s) d.counted-a.result d.counted-a.ensures c.if-a-ne0.true
 
 -- what rule 21 leaves known
-counted : (c : tie.Else-a-ne0) → let s = begin1 c in Counted (length s.args.x.now) s.args.nodes s.args.listed (lengths (treeAt s))
+counted : (c : tie.Else-a-ne0) → let s = begin1 c in Counted (length s.args.x.now) s.args.nodes s.args.listed (lengths (tree_at s))
 counted c = let s = begin1 c in (passed (first s) [] c.counted-a.result c.counted-a.ensures c.if-a-ne0.false).0 0 (omega arith) (omega arith)
 
 columns : (c : tie.Else-a-ne0) → Columns (shape_at (begin1 c))

@@ -18,31 +18,31 @@ use Rattle.pieces.proofs.put_place.Tie as tie
 abbrev kit_of : tie.Start → List ℕ
 kit_of s = line_of (ascii "kit=") (hex s.args.kit)
 
-abbrev yOn : tie.Start → List ℕ
-yOn s = line_of (ascii "y=") (signed s.args.y) ++ kit_of s
+abbrev y_on : tie.Start → List ℕ
+y_on s = line_of (ascii "y=") (signed s.args.y) ++ kit_of s
 
-abbrev xOn : tie.Start → List ℕ
-xOn s = line_of (ascii "x=") (signed s.args.x) ++ yOn s
+abbrev x_on : tie.Start → List ℕ
+x_on s = line_of (ascii "x=") (signed s.args.x) ++ y_on s
 
 put_number_line-a-requires : tie.Need-put_number_line-a-requires
 unfolding place_text place_part
 put_number_line-a-requires c κs =
     let s = c.before.before.before in
-    room_first (line_of (ascii "place=") (decimal s.args.i)) (xOn s.before) _ _ s.requires
+    room_first (line_of (ascii "place=") (decimal s.args.i)) (x_on s.before) _ _ s.requires
 
 -- what follows the number has room
 abbrev begin : tie.After-put_number_line-a → tie.Start
 begin c = c.before.before.before.before.before
 
-behind_number : (c : tie.After-put_number_line-a) → c.put_number_line-a.result + length (xOn (begin c)) ≤ length c.put_number_line-a.new.out
+behind_number : (c : tie.After-put_number_line-a) → c.put_number_line-a.result + length (x_on (begin c)) ≤ length c.put_number_line-a.new.out
 unfolding place_text place_part
-behind_number c = room_after (xOn (begin c)) (begin c).requires c.put_number_line-a.ensures
+behind_number c = room_after (x_on (begin c)) (begin c).requires c.put_number_line-a.ensures
 
 put_signed_line-b-requires : tie.Need-put_signed_line-b-requires
 put_signed_line-b-requires c κs =
     let n = c.before.before.before.before in
     let s = begin n.before in
-    rw (to_z-of_z s.ranges.x) (room_first (line_of (ascii "x=") (signed s.args.x)) (yOn s) _ _ (behind_number n.before))
+    rw (to_z-of_z s.ranges.x) (room_first (line_of (ascii "x=") (signed s.args.x)) (y_on s) _ _ (behind_number n.before))
 
 -- x is put, and what follows it has room
 abbrev number : tie.After-put_signed_line-b → tie.After-put_number_line-a
@@ -52,8 +52,8 @@ x_put : (c : tie.After-put_signed_line-b) → let n = number c in
     Puts n.put_number_line-a.new.out n.put_number_line-a.result (line_of (ascii "x=") (signed (begin n).args.x)) c.put_signed_line-b.result c.put_signed_line-b.new.out
 x_put c = puts_text (ap (λ z. line_of (ascii "x=") (signed z)) (to_z-of_z (begin (number c)).ranges.x)) c.put_signed_line-b.ensures
 
-behind_x : (c : tie.After-put_signed_line-b) → c.put_signed_line-b.result + length (yOn (begin (number c))) ≤ length c.put_signed_line-b.new.out
-behind_x c = room_after (yOn (begin (number c))) (behind_number (number c)) (x_put c)
+behind_x : (c : tie.After-put_signed_line-b) → c.put_signed_line-b.result + length (y_on (begin (number c))) ≤ length c.put_signed_line-b.new.out
+behind_x c = room_after (y_on (begin (number c))) (behind_number (number c)) (x_put c)
 
 put_signed_line-c-requires : tie.Need-put_signed_line-c-requires
 put_signed_line-c-requires c κs =
@@ -82,8 +82,8 @@ returns c =
     let x = first y.before in
     let n = number x in
     let s = begin n in
-    puts_then (xOn s) s.requires n.put_number_line-a.ensures
-    (puts_then (yOn s) (behind_number n) (x_put x) (puts_then (kit_of s) (behind_x x) (y_put y.before) c.put_bits_line.ensures))
+    puts_then (x_on s) s.requires n.put_number_line-a.ensures
+    (puts_then (y_on s) (behind_number n) (x_put x) (puts_then (kit_of s) (behind_x x) (y_put y.before) c.put_bits_line.ensures))
 
 pub put_place_spec : {M : Type 1} → statement M
 put_place_spec =

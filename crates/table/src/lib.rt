@@ -2,10 +2,11 @@
 #![tactic(auto)]
 
 ghost use Rattle.std.specs.Prelude.{◌≡◌};
-ghost use Rattle.verdict.specs.Rules.{verdict};
+ghost use Rattle.verdict.specs.Rules.{said, verdict};
 ghost use Rattle.table.specs.Table.{table_rules};
 
 use std::marker::Model;
+use verdict::{Reason, Refusal};
 
 // The lent columns of a table; clauses see the table that they are.
 #[derive(Drop)]
@@ -23,18 +24,24 @@ impl<'a> Model for Table<'a> {
     ghost view = { λ t. Table.table t.x.now t.y.now t.kit.now };
 }
 
-// Internal: 11 where the columns differ in length or are too long, 12 at the lowest place that is out of range.
-pub fn check(t: &Table) -> verdict::Verdict
-    ensures { result ≡ verdict (table_rules t.now) }
+// Internal: uneven where the columns differ in length or are too long, out of range at the lowest place that is.
+pub fn check(t: &Table) -> Result<(), Refusal>
+    ensures { said result ≡ verdict (table_rules t.now) }
 {
     let places = t.x.len();
     if t.y.len() != places || t.kit.len() != places || places > 4096 {
-        return verdict::Verdict { code: 11, at: 0 };
+        return Err(Refusal {
+            reason: Reason::UnevenColumns,
+            at: 0,
+        });
     }
     for p in 0..places {
         if plane::is_off(t.x[p], t.y[p]) {
-            return verdict::Verdict { code: 12, at: p };
+            return Err(Refusal {
+                reason: Reason::OutOfRange,
+                at: p,
+            });
         }
     }
-    verdict::Verdict { code: 0, at: 0 }
+    Ok(())
 }

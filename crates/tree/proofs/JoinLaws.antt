@@ -1,6 +1,6 @@
 -- What a loop over the list indices of a run makes of its join, for any operation.
 -- Assumes nothing.
-use Rattle.std.proofs.Common.{◌≡◌, ap, ◌∙◌, ℕ, zero, suc, ◌+◌, ◌-◌, ◌≤◌, arith}
+use Rattle.std.proofs.Common.{◌≡◌, ap, ◌∙◌, ℕ, suc, ◌+◌, ◌-◌, ◌≤◌, arith}
 use Rattle.plane.specs.Run.{joined}
 
 module _ {A : Type 0} (op : A → A → A) (f : ℕ → A) (from : ℕ) where

@@ -1,4 +1,4 @@
-use Rattle.std.proofs.Common.{◌≡◌, ℕ, ◌^◌, ◌<◌, sym, ◌∙◌, refl, arith, ⊎_elim, length, get_or, ℤ, pos}
+use Rattle.std.proofs.Common.{◌≡◌, ℕ, ◌^◌, ◌<◌, sym, ◌∙◌, arith, length, ℤ}
 use borrow.Author.Count.{below_more}
 use lib.Signed.{mag}
 use mathlib.Core.Bool.{Bool, ◌||◌}
@@ -10,6 +10,7 @@ use Rattle.plane.proofs.SignedLaws.{fit}
 use Rattle.table.specs.Table.{box_of}
 use Rattle.table.proofs.TableLaws.{uneven, off_at, no_fault, on, off}
 use Rattle.table.proofs.check.Goals as goal
+use Rattle.table.proofs.check.Goals.{then-t-places-via-then-t-places, then-t-places-via-else-t-places+then-t-places-2, then-t-places-via-else-t-places+else-t-places-2+then-places-gt4096}
 
 -- what `is_off` answers on two elements
 said : (x y : ℤ) {r b : Bool} → mag x < 2 ^ 31 → mag y < 2 ^ 31 → r ≡ (outside (to_z w32 (of_z w32 x)) || outside (to_z w32 (of_z w32 y))) → r ≡ b → (outside x || outside y) ≡ b
@@ -18,9 +19,11 @@ said x y h k e t = sym (rw (to_z-of_z (fit x h), to_z-of_z (fit y k)) at e) ∙ 
 pub returns-then-t-places : goal.returns-then-t-places
 returns-then-t-places c =
     rw (← c.t.view_is)
-    (⊎_elim (λ w. uneven _ (λ h. w.if-t-places.true h.y))
-    (⊎_elim (λ w. uneven _ (λ h. w.if-t-places-2.true h.kit)) (λ w. uneven _ (λ h. omega (arith, h.few, w.if-places-gt4096.true))))
-    c.then-t-places.branch-raw)
+    (elim c.then-t-places.branch [
+      | then-t-places-via-then-t-places w ↦ uneven _ (λ h. w.if-t-places.true h.y)
+      | then-t-places-via-else-t-places+then-t-places-2 w ↦ uneven _ (λ h. w.if-t-places-2.true h.kit)
+      | then-t-places-via-else-t-places+else-t-places-2+then-places-gt4096 w ↦ uneven _ (λ h. omega (arith, h.few))
+    ])
 
 pub loop-p-init : goal.loop-p-init
 loop-p-init c = λ q b. absurd (omega arith)

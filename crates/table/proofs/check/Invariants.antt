@@ -1,5 +1,5 @@
 -- The places below p are in range.
-use Rattle.std.proofs.Common.{◌≡◌, ℕ, ◌<◌}
+use Rattle.std.proofs.Common.{ℕ, ◌<◌}
 use Rattle.plane.specs.Plane.{Ranged}
 use Rattle.table.specs.Table.{box_of}
 use Rattle.table.proofs.check.Given as goal

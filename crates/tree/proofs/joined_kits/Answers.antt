@@ -1,4 +1,4 @@
-use Rattle.std.proofs.Common.{◌≡◌, ◌∙◌, ap, ap₂, get_or, bit_or, arith}
+use Rattle.std.proofs.Common.{◌∙◌, ap, ap₂, get_or, bit_or, arith}
 use Rattle.tree.proofs.JoinLaws.{joined_first, joined_next}
 use Rattle.tree.proofs.joined_kits.Goals as goal
 

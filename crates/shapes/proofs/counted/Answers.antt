@@ -25,12 +25,14 @@ returns-then-places-ne0 c =
 
 pub returns-then-places-eq0 : goal.returns-then-places-eq0
 returns-then-places-eq0 c =
+    let ways = c.then-places-eq0.branch in
     rw (← c.tree.view_is, ← c.shape.view_is)
     (breaks
     (λ h.
-    elim c.then-places-eq0.branch [
-      | then-places-eq0-via-then-places-eq0 w ↦ c.if-nodes-eq0.false (h.empty.1 w.if-places-eq0.true)
-      | then-places-eq0-via-else-places-eq0+then-listed-places w ↦ omega (arith, h.all, w.if-listed-places.true)
+    let due = h.all in
+    elim ways [
+      then-places-eq0-via-then-places-eq0 w ↦ c.if-nodes-eq0.false (h.empty.1 w.if-places-eq0.true)
+    | then-places-eq0-via-else-places-eq0+then-listed-places w ↦ w.if-listed-places.true due
     ]))
 
 pub returns-then-not-has_room : goal.returns-then-not-has_room

@@ -1,7 +1,7 @@
 -- What `==` on spans and boxes says: that the two are the same.
 -- Assumes nothing.
 use mathlib.Core.Path.{◌≡◌, refl, sym, ap, ap₂, ◌∙◌}
-use mathlib.Core.Bool.{Bool, true, false, ◌&&◌}
+use mathlib.Core.Bool.{Bool, true, false, not, ◌&&◌}
 use Rattle.std.specs.Bool.{Decides}
 use Rattle.std.specs.Ordering.{int_eq}
 use Rattle.std.proofs.lemmas.Bool.Decides.{Decides-int_eq}
@@ -31,3 +31,12 @@ same_spans {s} {t} e = told e (span_test s t)
 
 pub same_boxes : {b c : Box} {r : Bool} → r ≡ ((int_eq b.x.lo c.x.lo && int_eq b.x.hi c.x.hi) && (int_eq b.y.lo c.y.lo && int_eq b.y.hi c.y.hi)) → Decides r (b ≡ c)
 same_boxes {b} {c} e = told e (box_test b c)
+
+-- and what `!=` on boxes says
+pub other_boxes : {b c : Box} {r : Bool} → r ≡ not ((int_eq b.x.lo c.x.lo && int_eq b.x.hi c.x.hi) && (int_eq b.y.lo c.y.lo && int_eq b.y.hi c.y.hi))
+    → (r ≡ true → b ≡ c → ⊥) × (r ≡ false → b ≡ c)
+other_boxes {b} {c} e = apart _ e (box_test b c)
+  where
+    apart : {P : Type 0} {r : Bool} (s : Bool) → r ≡ not s → Decides s P → (r ≡ true → P → ⊥) × (r ≡ false → P)
+    apart true e d = (λ t p. false_not_true (sym e ∙ t), λ f. d.0 refl)
+    apart false e d = (λ t p. false_not_true (d.1 p), λ f. absurd (false_not_true (sym f ∙ e)))

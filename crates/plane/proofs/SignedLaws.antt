@@ -39,7 +39,7 @@ less {a} {b} f g e = lt_true a b (rw (to_z-of_z f, to_z-of_z g) at e)
 pub not_less : {a b : ℤ} → SFits w32 a → SFits w32 b → lt_z (to_z w32 (of_z w32 a)) (to_z w32 (of_z w32 b)) ≡ false → Le b a
 not_less {a} {b} f g e = lt_false a b (rw (to_z-of_z f, to_z-of_z g) at e)
 
--- a difference of two
+-- a difference of two, as an i64 holds it
 mag_le : (z : ℤ) → mag z ≤ nat_abs z
 mag_le (pos n) = omega arith
 mag_le (negsuc n) = omega arith
@@ -50,6 +50,11 @@ diff_fits {a} {b} f g = record { sfits = omega (arith, mag_le (a -ℤ b), differ
 pub diff_held : {a b : ℤ} → SFits w32 a → SFits w32 b
     → to_z w64 (of_z w64 (to_z w64 (of_z w64 (to_z w32 (of_z w32 a))) -ℤ to_z w64 (of_z w64 (to_z w32 (of_z w32 b))))) ≡ a -ℤ b
 diff_held f g = rw (widened f, widened g, to_z-of_z (diff_fits f g))
+
+-- the same, where each was made an i64 first
+pub diff_of : {a b d e : ℤ} → SFits w32 a → SFits w32 b → d ≡ to_z w32 (of_z w32 a) → e ≡ to_z w32 (of_z w32 b)
+    → to_z w64 (of_z w64 (to_z w64 (of_z w64 d) -ℤ to_z w64 (of_z w64 e))) ≡ a -ℤ b
+diff_of f g p q = rw (p, q, diff_held f g)
 
 abs_fits : (z : ℤ) → SFits w64 z → Fits w64 (nat_abs z)
 abs_fits (pos n) f = omega (arith, f.sfits)

@@ -21,7 +21,11 @@ abbrev pub left : Column ℕ × (Column ℕ × (Column ℕ × (Column ℤ × (Co
 left (level, (start, (count, (x_lo, (x_hi, (y_lo, (y_hi, (kits, (entries, _))))))))) =
     tree (shape 0 0 level.now start.now count.now entries.now) (sides x_lo.now x_hi.now y_lo.now y_hi.now) kits.now
 
--- with the counts that the builder gives: all 0 in a refusal
+-- the counts that the builder gives: all 0 in a refusal
+abbrev pub counts : Result Built Refusal → ℕ × ℕ
+counts (Ok b) = (b.nodes, b.listed)
+counts (Err _) = (0, 0)
+
+-- columns with the counts that it gives
 abbrev pub counted : Result Built Refusal → Tree → Tree
-counted (Ok b) t = let s = t.shape in tree (shape b.nodes b.listed s.level s.start s.count s.entries) t.sides t.kits
-counted (Err _) t = let s = t.shape in tree (shape 0 0 s.level s.start s.count s.entries) t.sides t.kits
+counted r t = let s = t.shape in tree (shape (counts r).0 (counts r).1 s.level s.start s.count s.entries) t.sides t.kits

@@ -11,7 +11,7 @@ use Rattle.kit.specs.Kit.{held, padded}
 use Rattle.plane.specs.Plane.{Ranged}
 use Rattle.plane.specs.declared.Box.{Box}
 use Rattle.table.specs.Table.{Table}
-use Rattle.tree.specs.Tree.{Tree, Shape, Thing, place, thing, box_at, box_of, kit_of, start_of, count_of}
+use Rattle.tree.specs.Tree.{Tree, Shape, Sides, Thing, place, thing, box_at, box_of, kit_of, start_of, count_of}
 use Rattle.tree.specs.Lent.{sides}
 use Rattle.tree.specs.Rules.{lengths, Room}
 use Rattle.walks.specs.Allowance.{Stand, stand}
@@ -97,13 +97,13 @@ module _ {t : Table} {tree : Tree} {w : Want} {top high : ℕ} {c : Members} {o 
   others_so : without top (take w.m (boxes_at (sides_of c))) ≡ without o.top (boxes_of (take w.m cand))
   others_so = ap₂ (λ (n : ℕ) (l : List Box). without n l) (sym top_so) (sym boxes_so)
 
-  abbrev Goes : Stand Best → ℕ → Best → ℕ → Type 0
+  abbrev pub Goes : Stand Best → ℕ → Best → ℕ → Type 0
   Goes from steps best k = Going t tree (wanted w) w.allowance w.m cand o from steps best k
 
-  abbrev Ends : Stand Best → Stand Best → Type 0
+  abbrev pub Ends : Stand Best → Stand Best → Type 0
   Ends from to = Led t tree (wanted w) w.allowance w.m cand top from to
 
-  abbrev Ends_o : Stand Best → Stand Best → Type 0
+  abbrev pub Ends_o : Stand Best → Stand Best → Type 0
   Ends_o from to = Led t tree (wanted w) w.allowance w.m cand o.top from to
 
   pub ended : {from to : Stand Best} → Ends_o from to → Ends from to
@@ -120,10 +120,10 @@ module _ {t : Table} {tree : Tree} {w : Want} {top high : ℕ} {c : Members} {o 
     pub at_few : o.first + k < 65536
     at_few = in_few z.passes readied.opens k b
 
-    abbrev named : ℕ
+    abbrev pub named : ℕ
     named = get_or tree.shape.entries (o.first + k) 0
 
-    abbrev y : Thing
+    abbrev pub y : Thing
     y = entry tree.shape o.node k
 
     y_is : thing o.leaf named ≡ y
@@ -131,6 +131,23 @@ module _ {t : Table} {tree : Tree} {w : Want} {top high : ℕ} {c : Members} {o 
 
     pub read_in : Reads z.passes o.leaf named
     read_in = reads z.passes readied.opens k b
+
+    -- where the columns of nodes are read for it
+    room : Room tree.shape.nodes tree.shape.listed (lengths tree)
+    room = (meets z.passes).counted.room
+
+    pub kits_in : o.leaf ≡ false → named < length tree.kits
+    kits_in u = omega (arith, read_in.node u, room.kits)
+
+    pub sides_in : {s : Sides} → s ≡ tree.sides → o.leaf ≡ false → (named < length s.x_lo) × ((named < length s.x_hi) × ((named < length s.y_lo) × (named < length s.y_hi)))
+    sides_in v u =
+        let n = read_in.node u in (
+          omega (arith, n, room.x_lo, ap (λ (s : Sides). length s.x_lo) v),
+          (
+            omega (arith, n, room.x_hi, ap (λ (s : Sides). length s.x_hi) v),
+            (omega (arith, n, room.y_lo, ap (λ (s : Sides). length s.y_lo) v), omega (arith, n, room.y_hi, ap (λ (s : Sides). length s.y_hi) v)),
+          ),
+        )
 
     -- does it hold the kind?
     pub held_so : {u : Bool} → u ≡ held (kit_of t tree.kits (thing o.leaf named)) o.kind → u ≡ holds t tree (get_or (wanted w) o.top 0) y
@@ -155,7 +172,7 @@ module _ {t : Table} {tree : Tree} {w : Want} {top high : ℕ} {c : Members} {o 
       skipped h f = skips readied w.allowance from g b (sym (held_so h) ∙ f)
 
       module _ {u : Bool} (h : u ≡ held (kit_of t tree.kits (thing o.leaf named)) o.kind) (f : u ≡ true) where
-        holding : holds t tree (get_or (wanted w) o.top 0) y ≡ true
+        pub holding : holds t tree (get_or (wanted w) o.top 0) y ≡ true
         holding = sym (held_so h) ∙ f
 
         pub spent : {now : ℕ} {s : Bool} → Stepped w.allowance steps s now → s ≡ false → Ends from (stand now true best)

@@ -1,6 +1,6 @@
 -- The columns of a candidate's members.
 -- Assumes nothing.
-use Rattle.std.specs.Prelude.{ℕ, set}
+use Rattle.std.specs.Prelude.{ℕ, set, replicate}
 use Rattle.plane.specs.declared.Box.{Box}
 use Rattle.tree.specs.Tree.{Sides}
 use Rattle.tree.specs.Lent.{sides}
@@ -18,4 +18,14 @@ with_member c i number b = record {
   east = set c.east i b.x.hi;
   south = set c.south i b.y.lo;
   north = set c.north i b.y.hi;
+}
+
+-- eight members of one number and one box
+abbrev pub eight_of : ℕ → Box → Members
+eight_of number b = record {
+  numbers = replicate 8 number;
+  west = replicate 8 b.x.lo;
+  east = replicate 8 b.x.hi;
+  south = replicate 8 b.y.lo;
+  north = replicate 8 b.y.hi;
 }

@@ -7,7 +7,7 @@ ghost use Rattle.kit.specs.Kit.{held, padded};
 ghost use Rattle.tree.specs.Tree.{thing, kit_of, box_at, box_of};
 ghost use Rattle.closest.specs.Group.{farthest, spread};
 ghost use Rattle.members.specs.Boxes.{without, skip, AllRanged, boxes_at, UpTo};
-ghost use Rattle.members.specs.Columns.{sides_of, with_member};
+ghost use Rattle.members.specs.Columns.{sides_of, with_member, eight_of};
 ghost use Rattle.members.specs.Levels.{next_top, next_high};
 ghost use Rattle.members.specs.Best.{best_at, best_in, limit_of, near, improved, Stepped};
 
@@ -71,6 +71,19 @@ fn skipping(i: usize, k: usize) -> usize
 }
 
 impl Members {
+    // Internal: eight members of one number and one box.
+    pub fn alike(number: u16, b: plane::Box) -> Members
+        ensures { result ≡ eight_of number b }
+    {
+        Members {
+            numbers: [number; 8],
+            west: [b.x.lo; 8],
+            east: [b.x.hi; 8],
+            south: [b.y.lo; 8],
+            north: [b.y.hi; 8],
+        }
+    }
+
     // The box of member i.
     fn box_at(&self, i: usize) -> plane::Box
         requires { i < 8 }

@@ -2,10 +2,9 @@
 -- Assumes nothing.
 use Rattle.std.proofs.Common.{ℕ, ◌≡◌, ◌∙◌, refl, sym, ap, subst, List, [], ◌++◌, length, append_assoc, arith, length-append}
 use mathlib.Core.List.{append-nil}
-use lib.Seq.{paste-zero}
 use Rattle.print.specs.Wrote.{HasRoom, Wrote}
 use Rattle.print.specs.declared.Page.{Page}
-use Rattle.print.proofs.WroteLaws.{wrote_then, wrote_text, wrote_length}
+use Rattle.print.proofs.WroteLaws.{wrote_none, wrote_then, wrote_text, wrote_length}
 
 -- of the text `all`, written on the page p, `left` is still to be written on q
 pub record Left (p : Page) (all left : List ℕ) (q : Page) : Type 0 where
@@ -15,7 +14,7 @@ pub record Left (p : Page) (all left : List ℕ) (q : Page) : Type 0 where
   pub fits : HasRoom p all
 
 pub left_all : {p : Page} (all : List ℕ) → HasRoom p all → Left p all all p
-left_all {p} all h = record { done = []; wrote = record { room = omega arith; puts = record { end = omega arith; bytes = paste-zero p.out.now p.at [] }; same = refl }; whole = refl; fits = h }
+left_all {p} all h = record { done = []; wrote = wrote_none p (omega arith); whole = refl; fits = h }
 
 -- what is left, by another name
 pub left_is : {p q : Page} {all t u : List ℕ} → t ≡ u → Left p all t q → Left p all u q

@@ -4,6 +4,7 @@ use Rattle.std.specs.Prelude.{ℕ, ◌+◌, ◌≤◌, ◌<◌, ◌≡◌, List,
 use denote.Ref.{Bor}
 use Rattle.readers.specs.declared.Fault.{Fault}
 use Rattle.readers.specs.declared.Fault.TheVariants.{Missing, OutOfForm, BytesAfter}
+use Rattle.readers.specs.declared.Refusal.{Refusal}
 use Rattle.readers.specs.declared.Line.{Line}
 use Rattle.lines.specs.Form.{Form, InForm}
 use Rattle.lines.specs.Line.{line, none, cut, longest, due, Got, refused, got}
@@ -26,6 +27,9 @@ Parses f t r = SomeIff r (InForm f t) (f.value t)
 abbrev pub Due : List ℕ → ℕ → List ℕ → Option (Line (Bor (List ℕ))) → Type 0
 Due s at key r = MatchOption r (due key (drop at s) ≡ none) (λ l. (l.next ≤ length s) × (due key (drop at s) ≡ line l.value.now (drop l.next s)))
 
--- what is told of bytes s that were read: why line n is refused; or the value, and where the next line begins
-abbrev pub Reads : {A : Type 0} → List ℕ → Got A → ℕ → Result (Line A) Fault → Type 0
-Reads s g n r = MatchResult r (λ l. (l.next ≤ length s) × (g ≡ got l.value (drop l.next s))) (λ f. g ≡ refused (code_of f) n)
+-- what is told of bytes s that were read: the number and the line of a refusal; or the value, seen in some way, and where the next line begins
+abbrev pub ReadsAs : {A B : Type 0} → (B → A) → List ℕ → Got A → Result (Line B) Refusal → Type 0
+ReadsAs view s g r = MatchResult r (λ l. (l.next ≤ length s) × (g ≡ got (view l.value) (drop l.next s))) (λ e. g ≡ refused (code_of e.fault) e.line)
+
+abbrev pub Reads : {A : Type 0} → List ℕ → Got A → Result (Line A) Refusal → Type 0
+Reads s g r = ReadsAs (λ v. v) s g r

@@ -31,7 +31,14 @@ impl Fault {
     }
 }
 
-// Lines that were read: their value, and where the next begins.
+// A refusal: why, and at which line.
+#[derive(Clone, Copy, Debug, PartialEq, Eq)]
+pub struct Refusal {
+    pub fault: Fault,
+    pub line: usize,
+}
+
+// A line, or some in a row, that was read: its value, and where the next begins.
 #[derive(Drop)]
 pub struct Line<T> {
     pub next: usize,
@@ -71,24 +78,27 @@ fn value_at<'a>(s: &'a [u8], at: usize, key: &[u8]) -> Option<Line<&'a [u8]>>
     })
 }
 
-// Internal: the line at `at`, due with a key and a value of a form.
+// Internal: line number `line`, which begins at `at`, due with a key and a value of a form.
 pub fn read<F: ValueForm>(
     s: &[u8],
     at: usize,
+    line: usize,
     key: &[u8],
     form: &F,
-) -> Result<Line<F::Value>, Fault>
+) -> Result<Line<F::Value>, Refusal>
     requires { at ≤ length s.now }
-    ensures { (n : ℕ) → Reads s.now (read_line key.now (F.form form.now) n (drop at s.now)) n result }
+    ensures { Reads s.now (read_line key.now (F.form form.now) line (drop at s.now)) result }
 {
-    let Some(line) = value_at(s, at, key) else {
-        return Err(Fault::Missing);
+    let Some(found) = value_at(s, at, key) else {
+        let fault = Fault::Missing;
+        return Err(Refusal { fault, line });
     };
-    let Some(value) = form.parse(line.value) else {
-        return Err(Fault::OutOfForm);
+    let Some(value) = form.parse(found.value) else {
+        let fault = Fault::OutOfForm;
+        return Err(Refusal { fault, line });
     };
     Ok(Line {
-        next: line.next,
+        next: found.next,
         value,
     })
 }
@@ -205,34 +215,46 @@ impl<'a> ValueForm for Word<'a> {
     }
 }
 
-// Internal: the line at `at`, due with a key and a decimal number of at most `most`.
-pub fn line_number(s: &[u8], at: usize, key: &[u8], most: u32) -> Result<Line<u32>, Fault>
+// Internal: the line due with a key and a decimal number of at most `most`.
+pub fn line_number(
+    s: &[u8],
+    at: usize,
+    line: usize,
+    key: &[u8],
+    most: u32,
+) -> Result<Line<u32>, Refusal>
     requires { at ≤ length s.now }
-    ensures { (n : ℕ) → Reads s.now (read_line key.now (natural most) n (drop at s.now)) n result }
+    ensures { Reads s.now (read_line key.now (natural most) line (drop at s.now)) result }
 {
-    read(s, at, key, &Natural { most })
+    read(s, at, line, key, &Natural { most })
 }
 
-// Internal: the line at `at`, due with a key and 64 bits.
-pub fn line_bits(s: &[u8], at: usize, key: &[u8]) -> Result<Line<u64>, Fault>
+// Internal: the line due with a key and 64 bits.
+pub fn line_bits(s: &[u8], at: usize, line: usize, key: &[u8]) -> Result<Line<u64>, Refusal>
     requires { at ≤ length s.now }
-    ensures { (n : ℕ) → Reads s.now (read_line key.now bits n (drop at s.now)) n result }
+    ensures { Reads s.now (read_line key.now bits line (drop at s.now)) result }
 {
-    read(s, at, key, &Bits)
+    read(s, at, line, key, &Bits)
 }
 
-// Internal: the line at `at`, due with a key and a coordinate.
-pub fn line_coordinate(s: &[u8], at: usize, key: &[u8]) -> Result<Line<i32>, Fault>
+// Internal: the line due with a key and a coordinate.
+pub fn line_coordinate(s: &[u8], at: usize, line: usize, key: &[u8]) -> Result<Line<i32>, Refusal>
     requires { at ≤ length s.now }
-    ensures { (n : ℕ) → Reads s.now (read_line key.now (coordinate 1000000) n (drop at s.now)) n result }
+    ensures { Reads s.now (read_line key.now (coordinate 1000000) line (drop at s.now)) result }
 {
-    read(s, at, key, &Coordinate)
+    read(s, at, line, key, &Coordinate)
 }
 
-// Internal: the line at `at`, due with a key and a word.
-pub fn line_word(s: &[u8], at: usize, key: &[u8], text: &[u8]) -> Result<Line<()>, Fault>
+// Internal: the line due with a key and a word.
+pub fn line_word(
+    s: &[u8],
+    at: usize,
+    line: usize,
+    key: &[u8],
+    text: &[u8],
+) -> Result<Line<()>, Refusal>
     requires { at ≤ length s.now }
-    ensures { (n : ℕ) → Reads s.now (read_line key.now (word text.now) n (drop at s.now)) n result }
+    ensures { Reads s.now (read_line key.now (word text.now) line (drop at s.now)) result }
 {
-    read(s, at, key, &Word { text })
+    read(s, at, line, key, &Word { text })
 }

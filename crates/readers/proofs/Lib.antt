@@ -2,4 +2,5 @@
 pub mod CutLaws
 pub mod ParseLaws
 pub mod SignedLaws
+pub mod ReadLaws
 pub mod KnownLaws

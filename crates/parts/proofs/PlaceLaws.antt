@@ -14,7 +14,8 @@ use Rattle.lines.specs.Form.{word, coordinate, bits}
 use Rattle.lines.specs.Line.{fair, refused, got, read_line}
 use Rattle.lines.proofs.FormLaws.{sound_coordinate}
 use Rattle.lines.proofs.PartLaws.{lawful_line}
-use Rattle.rows.specs.Sheet.{Place, place_part}
+use Rattle.rows.specs.Sheet.{Place, place_part, x_of, y_of}
+use Rattle.rows.proofs.SheetLaws.{lawful_place}
 
 pub place_lines : (i : ℕ) (p : Place) → (place_part i).lines p ≡ 4
 unfolding place_part
@@ -27,6 +28,11 @@ fits_32 (negsuc n) h = record { sfits = omega arith }
 
 pub held_32 : (key : List ℕ) → T (fair key) → (n : ℕ) (s : List ℕ) (z : ℤ) (r : List ℕ) → read_line key (coordinate 1000000) n s ≡ got z r → to_z w32 (of_z w32 z) ≡ z
 held_32 key h n s z r e = to_z-of_z (fits_32 z ((lawful_line key (coordinate 1000000) h (sound_coordinate 1000000 (omega arith))).whole n s z r e).0)
+
+pub held_place : (i n : ℕ) (s : List ℕ) (p : Place) (r : List ℕ) → (place_part i).read n s ≡ got p r → (to_z w32 (of_z w32 (x_of p)) ≡ x_of p) × (to_z w32 (of_z w32 (y_of p)) ≡ y_of p)
+unfolding place_part
+held_place i n s p r e =
+    let w = ((lawful_place i).whole n s p r e).0 in (to_z-of_z (fits_32 (x_of p) w.1.1.0), to_z-of_z (fits_32 (y_of p) w.1.1.1.0))
 
 -- the first line that is refused decides
 module _ (i n : ℕ) (s : List ℕ) where

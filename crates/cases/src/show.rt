@@ -3,6 +3,7 @@ ghost use Rattle.std.specs.Prelude.{◌<◌};
 ghost use Rattle.cases.specs.declared.TheConstants.{BUFFER};
 
 use crate::BUFFER;
+use crate::values::Value;
 
 // The output's buffer, which is filled up to `to`; once it is full, it is written.
 #[derive(Drop)]
@@ -35,23 +36,26 @@ impl Page {
         }
     }
 
-    // A number in decimal.
-    pub fn put_number(&mut self, n: u64) {
+    pub fn put_decimal(&mut self, n: u64) {
         let mut text = [0; 20];
         let k = io::decimal(n, &mut text);
         self.put(&text[..k]);
     }
 
-    // The first two fields of most answers.
-    pub fn put_verdict(&mut self, code: u8, at: usize) {
-        self.put_number(u64::from(code));
-        self.put_next(at as u64);
+    pub fn put_number<V: Value>(&mut self, number: V) {
+        number.put(self);
     }
 
     // A space and a number.
-    pub fn put_next(&mut self, n: u64) {
+    pub fn put_next<V: Value>(&mut self, number: V) {
         self.put_byte(b' ');
-        self.put_number(n);
+        self.put_number(number);
+    }
+
+    // The first two fields of most answers.
+    pub fn put_verdict(&mut self, code: u8, at: usize) {
+        self.put_number(code);
+        self.put_next(at);
     }
 
     // Writes what has not been written yet.

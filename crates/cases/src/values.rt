@@ -1,64 +1,92 @@
-// The types of numbers in a case.
-use crate::show::Page;
-use crate::words::{BadCase, Words};
+// The types of the numbers in a case.
+ghost use Rattle.std.specs.Prelude.{◌≡◌, ℕ, IfOk};
+ghost use Rattle.std.specs.Int.{w64, cast_unsigned};
 
-// A number of a case: how it is read, and how it is printed.
+use crate::show::Page;
+use crate::words::BadCase;
+
+// A number of a case: the word that stands for it, and how it is printed.
 pub trait Value: Copy {
-    fn read(words: &mut Words) -> Result<Self, BadCase>;
+    ghost word_of: { Self → ℕ };
+
+    fn of_word(word: u64) -> Result<Self, BadCase>
+        ensures { IfOk result (λ v. word ≡ word_of v) };
 
     fn put(self, page: &mut Page);
 }
 
 impl Value for u8 {
-    fn read(words: &mut Words) -> Result<u8, BadCase> {
-        Ok(u8::try_from(words.next()?)?)
+    ghost word_of = { λ v. v };
+
+    fn of_word(word: u64) -> Result<u8, BadCase> {
+        Ok(u8::try_from(word)?)
     }
 
     fn put(self, page: &mut Page) {
-        page.put_number(u64::from(self));
+        page.put_decimal(u64::from(self));
     }
 }
 
 impl Value for u16 {
-    fn read(words: &mut Words) -> Result<u16, BadCase> {
-        Ok(u16::try_from(words.next()?)?)
+    ghost word_of = { λ v. v };
+
+    fn of_word(word: u64) -> Result<u16, BadCase> {
+        Ok(u16::try_from(word)?)
     }
 
     fn put(self, page: &mut Page) {
-        page.put_number(u64::from(self));
+        page.put_decimal(u64::from(self));
     }
 }
 
 impl Value for u32 {
-    fn read(words: &mut Words) -> Result<u32, BadCase> {
-        Ok(u32::try_from(words.next()?)?)
+    ghost word_of = { λ v. v };
+
+    fn of_word(word: u64) -> Result<u32, BadCase> {
+        Ok(u32::try_from(word)?)
     }
 
     fn put(self, page: &mut Page) {
-        page.put_number(u64::from(self));
+        page.put_decimal(u64::from(self));
     }
 }
 
 impl Value for u64 {
-    fn read(words: &mut Words) -> Result<u64, BadCase> {
-        words.next()
+    ghost word_of = { λ v. v };
+
+    fn of_word(word: u64) -> Result<u64, BadCase> {
+        Ok(word)
     }
 
     fn put(self, page: &mut Page) {
-        page.put_number(self);
+        page.put_decimal(self);
     }
 }
 
-// A word is a signed number in two's complement.
+impl Value for usize {
+    ghost word_of = { λ v. v };
+
+    fn of_word(word: u64) -> Result<usize, BadCase> {
+        Ok(usize::try_from(word)?)
+    }
+
+    fn put(self, page: &mut Page) {
+        page.put_decimal(self as u64);
+    }
+}
+
+// In two's complement.
 impl Value for i32 {
-    fn read(words: &mut Words) -> Result<i32, BadCase> {
-        Ok(i32::try_from(words.next()?.cast_signed())?)
+    ghost word_of = { λ v. cast_unsigned w64 v };
+
+    fn of_word(word: u64) -> Result<i32, BadCase> {
+        Ok(i32::try_from(word.cast_signed())?)
     }
 
     fn put(self, page: &mut Page) {
         if self < 0 {
             page.put_byte(b'-');
         }
-        page.put_number(u64::from(self.unsigned_abs()));
+        page.put_decimal(u64::from(self.unsigned_abs()));
     }
 }

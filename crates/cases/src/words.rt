@@ -3,6 +3,7 @@ ghost use Rattle.std.specs.Prelude.{◌≤◌, IfOk};
 ghost use Rattle.cases.specs.declared.TheConstants.{BUFFER};
 
 use crate::BUFFER;
+use crate::values::Value;
 use std::num::TryFromIntError;
 
 // Something is missing in the input, or does not fit.
@@ -48,8 +49,8 @@ impl Words {
         self.at == self.end
     }
 
-    // The next word, little end first. Only at the end of the input are fewer than eight bytes left.
-    pub fn next(&mut self) -> Result<u64, BadCase> {
+    // Little end first. Only at the end of the input are fewer than eight bytes left.
+    fn next(&mut self) -> Result<u64, BadCase> {
         self.refill();
         let unread = &self.buffer[self.at..self.end];
         let word = *unread.first_chunk::<8>().ok_or(BadCase)?;
@@ -57,11 +58,16 @@ impl Words {
         Ok(u64::from_le_bytes(word))
     }
 
-    // The next word, where it is at most `most`.
-    pub fn next_within(&mut self, most: u64) -> Result<u64, BadCase>
+    // The next number.
+    pub fn read<V: Value>(&mut self) -> Result<V, BadCase> {
+        V::of_word(self.next()?)
+    }
+
+    // The next number, where it is at most `most`.
+    pub fn read_within(&mut self, most: usize) -> Result<usize, BadCase>
         ensures { IfOk result (λ n. n ≤ most) }
     {
-        let n = self.next()?;
+        let n = self.read()?;
         if most < n { Err(BadCase) } else { Ok(n) }
     }
 }

@@ -13,10 +13,10 @@ pub(crate) fn read_column<'a, V: Value>(
     words: &mut Words,
     room: &'a mut [V],
 ) -> Result<&'a mut [V], BadCase> {
-    let n = words.next_within(room.len() as u64)? as usize;
+    let n = words.read_within(room.len())?;
     let column = &mut room[..n];
     for value in column.iter_mut() {
-        *value = V::read(words)?;
+        *value = words.read()?;
     }
     Ok(column)
 }
@@ -24,8 +24,7 @@ pub(crate) fn read_column<'a, V: Value>(
 pub(crate) fn put_column<V: Value>(page: &mut Page, column: &[V]) {
     page.put(b" |");
     for value in column {
-        page.put_byte(b' ');
-        value.put(page);
+        page.put_next(*value);
     }
 }
 

@@ -2,7 +2,6 @@
 #![tactic(auto)]
 
 use cases::show::Page;
-use cases::values::Value;
 use cases::words::{BadCase, Words};
 use columns::{LentTable, LentTree, Room, put_column, read_column};
 
@@ -38,10 +37,10 @@ impl TryFrom<u64> for Call {
 }
 
 fn squared_case(words: &mut Words, page: &mut Page) -> Result<(), BadCase> {
-    let ax = i32::read(words)?;
-    let ay = i32::read(words)?;
-    let bx = i32::read(words)?;
-    let by = i32::read(words)?;
+    let ax = words.read()?;
+    let ay = words.read()?;
+    let bx = words.read()?;
+    let by = words.read()?;
     let m = plane::squared(ax, ay, bx, by);
     page.put_verdict(m.code, m.at);
     page.put_next(m.squared);
@@ -49,7 +48,7 @@ fn squared_case(words: &mut Words, page: &mut Page) -> Result<(), BadCase> {
 }
 
 fn root_case(words: &mut Words, page: &mut Page) -> Result<(), BadCase> {
-    let n = words.next()?;
+    let n = words.read()?;
     page.put_number(plane::root(n));
     Ok(())
 }
@@ -76,8 +75,8 @@ fn check_of(table: LentTable<'_>, tree: LentTree<'_>) -> verdict::Verdict {
 fn check_case(words: &mut Words, page: &mut Page, room: &mut Room) -> Result<(), BadCase> {
     let table = room.table.read(words)?;
     let tree = room.tree.read(words)?;
-    let nodes = words.next()? as usize;
-    let listed = words.next()? as usize;
+    let nodes = words.read()?;
+    let listed = words.read()?;
     let v = check_of(table.lent(), tree.lent(nodes, listed));
     page.put_verdict(v.code, v.at);
     Ok(())
@@ -88,8 +87,8 @@ fn build_case(words: &mut Words, page: &mut Page, room: &mut Room) -> Result<(),
     let mut tree = room.tree.read(words)?;
     let b = tree.build(table.lent());
     page.put_verdict(b.code, b.at);
-    page.put_next(b.nodes as u64);
-    page.put_next(b.listed as u64);
+    page.put_next(b.nodes);
+    page.put_next(b.listed);
     tree.put(page);
     Ok(())
 }
@@ -118,10 +117,10 @@ fn search_of(table: LentTable<'_>, tree: LentTree<'_>, want: u64, allowance: u32
 fn search_case(words: &mut Words, page: &mut Page, room: &mut Room) -> Result<(), BadCase> {
     let table = room.table.read(words)?;
     let tree = room.tree.read(words)?;
-    let nodes = words.next()? as usize;
-    let listed = words.next()? as usize;
-    let want = words.next()?;
-    let allowance = u32::read(words)?;
+    let nodes = words.read()?;
+    let listed = words.read()?;
+    let want = words.read()?;
+    let allowance = words.read()?;
     let f = search_of(table.lent(), tree.lent(nodes, listed), want, allowance);
     put_found(page, &f);
     Ok(())
@@ -130,22 +129,22 @@ fn search_case(words: &mut Words, page: &mut Page, room: &mut Room) -> Result<()
 fn put_found(page: &mut Page, f: &found::Found) {
     page.put_verdict(f.code, f.at);
     for place in f.places {
-        page.put_next(u64::from(place));
+        page.put_next(place);
     }
     page.put_next(f.squared);
-    page.put_next(u64::from(f.steps));
-    page.put_next(u64::from(f.known));
+    page.put_next(f.steps);
+    page.put_next(u8::from(f.known));
 }
 
 fn write_case(words: &mut Words, page: &mut Page, room: &mut Room) -> Result<(), BadCase> {
     let table = room.table.read(words)?;
-    let want = words.next()?;
-    let budget = u32::read(words)?;
+    let want = words.read()?;
+    let budget = words.read()?;
     let out = read_column(words, &mut room.bytes)?;
     let t = table.lent();
     let r = sheet::write(t.x, t.y, t.kit, want, budget, out);
     page.put_verdict(r.code, r.at);
-    page.put_next(r.bytes as u64);
+    page.put_next(r.bytes);
     put_column(page, out);
     Ok(())
 }
@@ -155,16 +154,17 @@ fn read_case(words: &mut Words, page: &mut Page, room: &mut Room) -> Result<(), 
     let mut table = room.table.read(words)?;
     let r = table.read_sheet(src);
     page.put_verdict(r.code, r.at);
-    page.put_next(r.places as u64);
+    page.put_next(r.places);
     page.put_next(r.want);
-    page.put_next(u64::from(r.budget));
+    page.put_next(r.budget);
     table.put(page);
     Ok(())
 }
 
 // The answer of a case. No other number of a call is known.
 fn answer(words: &mut Words, page: &mut Page, room: &mut Room) -> Result<(), BadCase> {
-    match Call::try_from(words.next()?)? {
+    let number: u64 = words.read()?;
+    match Call::try_from(number)? {
         Call::Squared => squared_case(words, page),
         Call::Root => root_case(words, page),
         Call::Check => check_case(words, page, room),

@@ -88,11 +88,11 @@ fn set<T: Copy>(column: &mut [T], index: usize, value: T) {
     }
 }
 
-// What is lent of it: `places` of x and kit, `places_y` of y, `kits_lent` of kits, all of the rest.
+// What is lent of it: `places` of x and kit, `y_lent` of y, `kits_lent` of kits, all of the rest.
 #[derive(Drop)]
 pub(crate) struct Case {
     places: usize,
-    places_y: usize,
+    y_lent: usize,
     kits_lent: usize,
     nodes: usize,
     listed: usize,
@@ -125,7 +125,7 @@ impl Case {
         }
         Case {
             places,
-            places_y: places,
+            y_lent: places,
             kits_lent: ROOM,
             nodes: 0,
             listed: 0,
@@ -167,7 +167,7 @@ impl Case {
     pub(crate) fn check(&self) -> Verdict {
         inspect::check(
             first(&self.x, self.places),
-            first(&self.y, self.places_y),
+            first(&self.y, self.y_lent),
             first(&self.kit, self.places),
             &self.level,
             &self.start,
@@ -199,7 +199,7 @@ impl Case {
             Column::Listed => self.listed = c.value as usize,
             Column::ShortKits => self.kits_lent = c.index,
             Column::X => set(&mut self.x, c.index, z),
-            Column::ShortY => self.places_y = c.index,
+            Column::ShortY => self.y_lent = c.index,
         }
     }
 

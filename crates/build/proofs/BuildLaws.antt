@@ -32,7 +32,7 @@ pub plotted : {t : Table} → Valid t → Plotted t.x t.y
 plotted v = let e = valid_even v in record { few = e.few; even = e.y; x = λ p l. (valid_ranged v p l).x.lo; y = λ p l. (valid_ranged v p l).y.lo }
 
 -- a refusal's number is none that says that nothing is refused
-numbered : (r : Reason) → number r ≡ 0 → ⊥
+pub numbered : (r : Reason) → number r ≡ 0 → ⊥
 numbered r e = grind arith
 
 -- a result that hands on what the first rules refuse says what all of them come to

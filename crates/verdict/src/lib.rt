@@ -6,7 +6,7 @@ ghost use Rattle.verdict.specs.Families.{family_of};
 ghost use Rattle.verdict.specs.Numbers.{number};
 
 // Why a call refuses. Spent, 32, is no reason: it is one of the ways in which a search ends.
-#[derive(Clone, Copy)]
+#[derive(Clone, Copy, PartialEq, Eq)]
 pub enum Reason {
     NothingWanted,
     TooManyKinds,
@@ -57,14 +57,14 @@ impl Reason {
 }
 
 // What a call refuses, and where.
-#[derive(Clone, Copy)]
+#[derive(Clone, Copy, PartialEq, Eq)]
 pub struct Refusal {
     pub reason: Reason,
     pub at: usize,
 }
 
 // Where a refusal comes from; `NoRefusal` is for the numbers that report none.
-#[derive(Clone, Copy)]
+#[derive(Clone, Copy, PartialEq, Eq)]
 pub enum From {
     Query,
     Table,
@@ -76,6 +76,7 @@ pub enum From {
 }
 
 // The family of a refusal number.
+#[tactic(auto, unfolding(crate::specs::Families::family_in))]
 pub fn family(code: u8) -> From
     ensures { result ≡ family_of code }
 {
@@ -84,7 +85,7 @@ pub fn family(code: u8) -> From
         11..=12 => From::Table,
         21..=26 => From::Tree,
         31..=33 => From::Search,
-        41..=41 => From::Room,
+        41 => From::Room,
         51..=53 => From::Sheet,
         54..=55 => From::Room,
         _ => From::NoRefusal,

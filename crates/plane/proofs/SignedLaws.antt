@@ -1,7 +1,7 @@
 -- Signed machine numbers: a signed local holds the integer that was put there, and a difference of two i32 fits an i64.
 -- Assumes nothing.
 use mathlib.Core.Path.{◌≡◌, refl, sym, ap, ◌∙◌}
-use mathlib.Core.Bool.{Bool, true, false, ◌||◌}
+use mathlib.Core.Bool.{true, false}
 use Prim.Native.Nat.{◌+◌, ◌*◌, ◌^◌, ◌≤◌, ◌<◌}
 use native.Mathlib.Omega.{arith}
 use lib.Dec.{T}
@@ -10,7 +10,7 @@ use lib.Signed.{mag, lt_z, non_neg}
 use mir.Syntax.{w32, w64}
 use mir.Val.{SFits, Fits, to_z, of_z}
 use mir.Facts.{to_z-of_z, sfits_widen}
-use Rattle.plane.proofs.WholeLaws.{false_not_true, up, down, Le, difference_is, diff_is, not_below_zero, lt_true, lt_false, square_le}
+use Rattle.plane.proofs.WholeLaws.{up, down, Le, difference_is, diff_is, not_below_zero, lt_true, lt_false, square_le}
 
 -- a number of an i32 column or field, as a list or a record has it
 pub fit : (z : ℤ) → mag z < 2 ^ 31 → SFits w32 z
@@ -47,7 +47,7 @@ mag_le (negsuc n) = omega arith
 pub diff_fits : {a b : ℤ} → SFits w32 a → SFits w32 b → SFits w64 (a -ℤ b)
 diff_fits {a} {b} f g = record { sfits = omega (arith, mag_le (a -ℤ b), difference_is a b, size f, size g) }
 
-pub diff_held : {a b : ℤ} → SFits w32 a → SFits w32 b
+diff_held : {a b : ℤ} → SFits w32 a → SFits w32 b
     → to_z w64 (of_z w64 (to_z w64 (of_z w64 (to_z w32 (of_z w32 a))) -ℤ to_z w64 (of_z w64 (to_z w32 (of_z w32 b))))) ≡ a -ℤ b
 diff_held f g = rw (widened f, widened g, to_z-of_z (diff_fits f g))
 
@@ -82,12 +82,3 @@ square_fits z h = record { sfits = omega (arith, mag_square z, square_le (nat_ab
 
 pub square_cast : (z : ℤ) → nat_abs z ≤ 2000000 → T (non_neg (z *ℤ z)) × Fits w64 (nat_abs (z *ℤ z))
 square_cast z h = (square_nonneg z, abs_fits (z *ℤ z) (square_fits z h))
-
--- `p || q`, by what was tested first
-pub or_true : (s t : Bool) → s ≡ true → s ≡ (s || t)
-or_true true t e = refl
-or_true false t e = absurd (false_not_true e)
-
-pub or_false : (s t : Bool) → s ≡ false → t ≡ (s || t)
-or_false true t e = absurd (false_not_true (sym e))
-or_false false t e = refl

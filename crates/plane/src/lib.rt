@@ -2,8 +2,10 @@
 #![tactic(auto)]
 
 ghost use Rattle.std.specs.Prelude.{◌≡◌, ◌≤◌, false, ◌||◌, nat_abs, ◌-ℤ◌};
-ghost use Rattle.plane.specs.Plane.{outside, square, squared_of, rise, gap, Ranged, apart, join_spans, join_boxes, measured};
+ghost use Rattle.plane.specs.Plane.{outside, square, squared_of, rise, gap, Ranged, apart, join_spans, join_boxes, measured, told};
 ghost use Rattle.plane.specs.Root.{Root};
+
+use verdict::{Reason, Refusal};
 
 // The coordinates from `lo` to `hi`.
 #[derive(Clone, Copy, PartialEq, Eq)]
@@ -38,14 +40,6 @@ pub struct Box {
     pub y: Span,
 }
 
-// The answer of `squared`.
-#[derive(Drop)]
-pub struct Measured {
-    pub code: u8,
-    pub at: usize,
-    pub squared: u64,
-}
-
 // Internal: is a coordinate out of range?
 pub fn is_outside(z: i32) -> bool
     ensures { result ≡ outside z }
@@ -77,30 +71,24 @@ fn squared_within(ax: i32, ay: i32, bx: i32, by: i32) -> u64
     axis(ax, bx) + axis(ay, by)
 }
 
-// The squared distance of two points; 12 at the first that is out of range.
+// The squared distance of two points; out of range at the first that is.
 #[tactic(auto, unfolding(crate::specs::Plane::measured))]
-pub fn squared(ax: i32, ay: i32, bx: i32, by: i32) -> Measured
-    ensures { result ≡ measured ax ay bx by }
+pub fn squared(ax: i32, ay: i32, bx: i32, by: i32) -> Result<u64, Refusal>
+    ensures { told result ≡ measured ax ay bx by }
 {
     if is_off(ax, ay) {
-        return Measured {
-            code: 12,
+        return Err(Refusal {
+            reason: Reason::OutOfRange,
             at: 0,
-            squared: 0,
-        };
+        });
     }
     if is_off(bx, by) {
-        return Measured {
-            code: 12,
+        return Err(Refusal {
+            reason: Reason::OutOfRange,
             at: 1,
-            squared: 0,
-        };
+        });
     }
-    Measured {
-        code: 0,
-        at: 0,
-        squared: squared_within(ax, ay, bx, by),
-    }
+    Ok(squared_within(ax, ay, bx, by))
 }
 
 // How far b stands above a; 0 where it does not.

@@ -1,34 +1,27 @@
 -- The lines of a group, kind by kind.
 -- Assumes nothing.
-use mathlib.Core.Path.{◌≡◌, refl, sym, ap, ap₂, ◌∙◌}
-use mathlib.Core.Bool.{true, false}
-use mathlib.Core.List.{List, [], ◌∷◌, ◌++◌}
-use Prim.Native.Nat.{ℕ, ◌+◌, ◌-◌, ◌≤◌, ◌<◌}
-use native.Mathlib.Numerals.{add-one}
-use lib.ListN.{length, get_or, drop, drop_of_length-le}
-use lib.Seq.{drop-cons}
+use Rattle.std.proofs.Common.{◌≡◌, refl, ap, ap₂, ◌∙◌, true, false, List, [], ◌∷◌, ◌++◌, ℕ, ◌+◌, ◌-◌, ◌≤◌, ◌<◌, length, arith}
 use Rattle.kit.specs.Kit.{held, kinds_from}
 use Rattle.kit.proofs.ListLaws.{from_next, from_last, keep_is}
 use Rattle.report.specs.Answer.{need_lines, group_lines}
 
-no_places : (kinds : List ℕ) → group_lines kinds [] ≡ []
+-- with no place left
+pub places_end : (kinds places : List ℕ) → length places ≡ 0 → group_lines kinds places ≡ []
 unfolding group_lines
-no_places [] = refl
-no_places (k ∷ kinds) = refl
+places_end [] places h = refl
+places_end (k ∷ kinds) [] h = refl
+places_end (k ∷ kinds) (p ∷ places) h = absurd (omega arith)
 
-pub places_end : (kinds places : List ℕ) (i : ℕ) → length places ≤ i → group_lines kinds (drop i places) ≡ []
-places_end kinds places i h = ap (group_lines kinds) (drop_of_length-le places h) ∙ no_places kinds
-
--- the lines still to come of the kinds of w from k on, with the places from i on
-module _ (w k : ℕ) (places : List ℕ) (i : ℕ) where
-  pub kinds_end : 64 ≤ k → group_lines (kinds_from w k (64 - k)) (drop i places) ≡ []
+-- the lines of the kinds of w from k on
+module _ (w k : ℕ) (places : List ℕ) where
+  pub kinds_end : 64 ≤ k → group_lines (kinds_from w k (64 - k)) places ≡ []
   unfolding group_lines
-  kinds_end h = ap (λ (kinds : List ℕ). group_lines kinds (drop i places)) (from_last w k h)
+  kinds_end h = ap (λ kinds. group_lines kinds places) (from_last w k h)
 
-  pub passed_by : k < 64 → held w k ≡ false → group_lines (kinds_from w k (64 - k)) (drop i places) ≡ group_lines (kinds_from w (k + 1) (64 - (k + 1))) (drop i places)
-  passed_by h e = ap (λ (kinds : List ℕ). group_lines kinds (drop i places)) (from_next w k h ∙ keep_is w k _ e)
+  pub passed_by : k < 64 → held w k ≡ false → group_lines (kinds_from w k (64 - k)) places ≡ group_lines (kinds_from w (k + 1) (64 - (k + 1))) places
+  passed_by h e = ap (λ kinds. group_lines kinds places) (from_next w k h ∙ keep_is w k _ e)
 
-  pub next_need : k < 64 → i < length places → held w k ≡ true
-      → group_lines (kinds_from w k (64 - k)) (drop i places) ≡ need_lines k (get_or places i 0) ++ group_lines (kinds_from w (k + 1) (64 - (k + 1))) (drop (i + 1) places)
+  pub next_need : {p : ℕ} {rest : List ℕ} → k < 64 → held w k ≡ true → places ≡ p ∷ rest
+      → group_lines (kinds_from w k (64 - k)) places ≡ need_lines k p ++ group_lines (kinds_from w (k + 1) (64 - (k + 1))) rest
   unfolding group_lines
-  next_need h l e = ap₂ (λ (kinds rest : List ℕ). group_lines kinds rest) (from_next w k h ∙ keep_is w k _ e) (drop-cons places i 0 l ∙ ap (λ (j : ℕ). get_or places i 0 ∷ drop j places) (sym (add-one i)))
+  next_need h e q = ap₂ group_lines (from_next w k h ∙ keep_is w k _ e) q

@@ -1,7 +1,7 @@
 // The place sheet: written into a lent buffer, and read into lent columns.
 #![tactic(auto)]
 
-ghost use Rattle.std.specs.Prelude.{◌≡◌, ◌≤◌, min, length};
+ghost use Rattle.std.specs.Prelude.{◌≡◌, ◌≤◌, length};
 ghost use Rattle.verdict.specs.Rules.{says, verdict};
 ghost use Rattle.table.specs.Table.{table};
 ghost use Rattle.rows.specs.Sheet.{asked, read_sheet};
@@ -45,12 +45,6 @@ pub fn write(x: &[i32], y: &[i32], kit: &[u64], want: u64, budget: u32, out: &mu
     }
 }
 
-fn least(a: usize, b: usize) -> usize
-    ensures { result ≡ min a b }
-{
-    if a < b { a } else { b }
-}
-
 // Reads a sheet: 51 to 53 at the lowest line that is refused; then 54 where a lent column is shorter than the place count.
 // A refusal changes nothing that was lent; else the first values of each column are those of the places.
 pub fn read(src: &[u8], x: &mut [i32], y: &mut [i32], kit: &mut [u64]) -> scan::Sheet
@@ -63,11 +57,11 @@ pub fn read(src: &[u8], x: &mut [i32], y: &mut [i32], kit: &mut [u64]) -> scan::
     if r.code != 0 {
         return r;
     }
-    if least(x.len(), least(y.len(), kit.len())) < r.places {
+    if x.len().min(y.len().min(kit.len())) < r.places {
         return scan::refused(54, 0);
     }
-    let h = scan::head_of(src);
-    scan::fill(src, h.next, h.places, x, y, kit);
+    let head = scan::head_of(src).unwrap();
+    let _ = scan::fill(src, head.next, head.value, x, y, kit);
     r
 }
 
@@ -79,10 +73,11 @@ pub fn take_in(src: &[u8], x: &mut [i32], y: &mut [i32], kit: &mut [u64]) -> sca
     ensures column_taken_2 { column_taken (λ h. h.table.y) (read_sheet src.now) y.old y.new }
     ensures column_taken_3 { column_taken (λ h. h.table.kit) (read_sheet src.now) kit.old kit.new }
 {
-    let h = scan::head_of(src);
-    if h.code != 0 {
-        return scan::refused(h.code, h.at);
+    match scan::head_of(src) {
+        Ok(head) => {
+            let p = scan::fill(src, head.next, head.value, x, y, kit);
+            scan::ending(src, p, head.value)
+        }
+        Err(refusal) => scan::Sheet::from(refusal),
     }
-    let p = scan::fill(src, h.next, h.places, x, y, kit);
-    scan::ending(src, p, h.places)
 }

@@ -3,7 +3,7 @@
 
 ghost use Rattle.std.specs.Prelude.{◌≡◌};
 ghost use Rattle.verdict.specs.Rules.{said, verdict};
-ghost use Rattle.table.specs.Table.{table_rules};
+ghost use Rattle.table.specs.Table.{places, table_rules};
 
 use std::marker::Model;
 use verdict::{Reason, Refusal};
@@ -22,6 +22,15 @@ impl<'a> Model for Table<'a> {
     ghost Value = { Table.Table };
 
     ghost view = { λ t. Table.table t.x.now t.y.now t.kit.now };
+}
+
+impl<'a> Table<'a> {
+    // Internal: how many places there are.
+    pub fn places(&self) -> usize
+        ensures { result ≡ places self.now }
+    {
+        self.x.len()
+    }
 }
 
 // Internal: uneven where the columns differ in length or are too long, out of range at the lowest place that is.

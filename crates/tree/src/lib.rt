@@ -83,7 +83,14 @@ pub struct Lengths {
 }
 
 impl<'a> Tree<'a> {
-    // Internal: how long they are.
+    // Internal: its levels and runs.
+    pub fn shape(&self) -> &Shape<'a>
+        ensures { result.now ≡ self.now.shape }
+    {
+        &self.shape
+    }
+
+    // Internal: how long its columns are.
     pub fn lengths(&self) -> Lengths
         ensures { result ≡ lengths self.now }
     {

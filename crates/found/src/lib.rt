@@ -89,7 +89,7 @@ pub fn outcome_of(s: walk::State) -> Found
         };
     }
     if 8000000000000 < best.squared {
-        return refuse(33, 0);
+        return refuse(Reason::TooWide.code(), 0);
     }
     Found {
         code: 0,

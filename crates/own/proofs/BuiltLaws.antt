@@ -22,19 +22,12 @@ use Rattle.levels.specs.Built.{built, column, entries_of}
 use Rattle.build.specs.Room.{build_rules, over, written_over}
 use Rattle.levels.proofs.LevelLaws.{nodes_few, listed_is}
 use Rattle.levels.proofs.LaidLaws.{length_entries}
+use Rattle.own.specs.Own.{used}
 use Rattle.build.proofs.BuildLaws.{numbered}
 use Rattle.build.proofs.PassLaws.{built_passes}
 
 over_nothing : {A : Type 0} (l : List A) → over l [] ≡ l
 over_nothing l = ap₂ ◌++◌ (refl {a = l}) (drop-nil (length l)) ∙ append-nil l
-
--- a tree with its columns cut off behind what is used
-abbrev pub used : Tree → Tree
-used w =
-    let n = w.shape.nodes in
-    let j = w.shape.listed in
-    tree (shape n j (take n w.shape.level) (take n w.shape.start) (take n w.shape.count) (take j w.shape.entries))
-    (sides (take n w.sides.x_lo) (take n w.sides.x_hi) (take n w.sides.y_lo) (take n w.sides.y_hi)) (take n w.kits)
 
 used_column : {A : Type 0} (t : Table) (f : ℕ → A) (before : List A) → take (nodes (places t)) (over (column t f) before) ≡ column t f
 used_column t f before = take_at (column t f) _ (nodes (places t)) (length_tab f (nodes (places t)))

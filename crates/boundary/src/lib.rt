@@ -25,18 +25,18 @@ use table::Table;
 use tree::{Shape, Sides, Tree};
 use verdict::Refusal;
 
-// The words of a squared distance.
-fn measured(r: Result<u64, Refusal>) -> [u64; 3]
+// The words of a call that gives one number.
+fn number_words(r: Result<u64, Refusal>) -> [u64; 3]
     ensures { result ≡ measured_words (told r) }
 {
     match r {
-        Ok(squared) => [0, 0, squared],
+        Ok(number) => [0, 0, number],
         Err(e) => [u64::from(e.reason.code()), e.at as u64, 0],
     }
 }
 
-// The words of what a call refuses.
-fn refusal(r: Result<(), Refusal>) -> [u64; 2]
+// The words of a check.
+fn check_words(r: Result<(), Refusal>) -> [u64; 2]
     ensures { result ≡ verdict_words (said r) }
 {
     match r {
@@ -46,7 +46,7 @@ fn refusal(r: Result<(), Refusal>) -> [u64; 2]
 }
 
 // The words of what the builder gives.
-fn built(r: Result<Built, Refusal>) -> [u64; 4]
+fn built_words(r: Result<Built, Refusal>) -> [u64; 4]
     ensures { result ≡ (said r).code ∷ (said r).at ∷ (counts r).0 ∷ (counts r).1 ∷ [] }
 {
     match r {
@@ -64,12 +64,12 @@ pub extern "C" fn longhorbi_root(n: u64) -> u64
 }
 
 // The number of the family of a refusal number: 0 none, 1 query, 2 table, 3 tree, 4 search, 5 room, 6 sheet.
+#[tactic(auto, unfolding(words::specs::Words::family_number))]
 #[unsafe(no_mangle)]
 pub extern "C" fn longhorbi_family(code: u8) -> u8
     ensures { result ≡ family_number (family_of code) }
 {
-    let from = verdict::family(code);
-    match from {
+    match verdict::family(code) {
         verdict::From::NoRefusal => 0,
         verdict::From::Query => 1,
         verdict::From::Table => 2,
@@ -89,7 +89,7 @@ pub extern "C" fn longhorbi_squared(ax: i32, ay: i32, bx: i32, by: i32, answer: 
     if answer.len() < 3 {
         return 0;
     }
-    words::lay(&measured(plane::squared(ax, ay, bx, by)), answer)
+    words::lay(&number_words(plane::squared(ax, ay, bx, by)), answer)
 }
 
 // The check of a tree against its table, in 2 words: code, at.
@@ -135,7 +135,7 @@ pub extern "C" fn longhorbi_check(
         },
         kits,
     };
-    words::lay(&refusal(inspect::check(&t, &tree)), answer)
+    words::lay(&check_words(inspect::check(&t, &tree)), answer)
 }
 
 // Builds the tree of a table in lent columns, in 4 words: code, at, nodes, listed.
@@ -174,7 +174,7 @@ pub extern "C" fn longhorbi_build(
         kits,
         entries,
     };
-    words::lay(&built(build::build(&t, into)), answer)
+    words::lay(&built_words(build::build(&t, into)), answer)
 }
 
 // The places that together hold a wanted kit and lie closest, in 13 words: code, at, eight places, squared, steps, known.
@@ -222,8 +222,8 @@ pub extern "C" fn longhorbi_search(
         },
         kits,
     };
-    let f = search::search(&t, &tree, want, allowance);
-    words::lay(&words::found_words(f), answer)
+    let found = search::search(&t, &tree, want, allowance);
+    words::lay(&words::found_words(found), answer)
 }
 
 // Writes the sheet of a table, a want and a budget at the start of a lent buffer, in 3 words: code, at, bytes.
@@ -244,9 +244,9 @@ pub extern "C" fn longhorbi_write(
     if answer.len() < 3 {
         return 0;
     }
-    let w = sheet::write(x, y, kit, want, budget, out);
-    let words = [w.code as u64, w.at as u64, w.bytes as u64];
-    words::lay(&words, answer)
+    let t = Table { x, y, kit };
+    let written = sheet::write(&t, want, budget, out).map(|bytes| bytes as u64);
+    words::lay(&number_words(written), answer)
 }
 
 // Reads a sheet into lent columns, in 5 words: code, at, places, want, budget.

@@ -55,6 +55,41 @@ fn built_words(r: Result<Built, Refusal>) -> [u64; 4]
     }
 }
 
+// The tree that C lends column by column.
+fn tree_of<'a>(
+    level: &'a [u8],
+    start: &'a [u16],
+    count: &'a [u8],
+    x_lo: &'a [i32],
+    x_hi: &'a [i32],
+    y_lo: &'a [i32],
+    y_hi: &'a [i32],
+    kits: &'a [u64],
+    entries: &'a [u16],
+    nodes: usize,
+    listed: usize,
+) -> Tree<'a>
+    ensures { result ≡ tree (shape nodes listed level.now start.now count.now entries.now) (sides x_lo.now x_hi.now y_lo.now y_hi.now) kits.now }
+{
+    Tree {
+        shape: Shape {
+            nodes,
+            listed,
+            level,
+            start,
+            count,
+            entries,
+        },
+        sides: Sides {
+            x_lo,
+            x_hi,
+            y_lo,
+            y_hi,
+        },
+        kits,
+    }
+}
+
 // The greatest whole number whose square is not above n.
 #[unsafe(no_mangle)]
 pub extern "C" fn longhorbi_root(n: u64) -> u64
@@ -118,23 +153,9 @@ pub extern "C" fn longhorbi_check(
         return 0;
     }
     let t = Table { x, y, kit };
-    let tree = Tree {
-        shape: Shape {
-            nodes,
-            listed,
-            level,
-            start,
-            count,
-            entries,
-        },
-        sides: Sides {
-            x_lo,
-            x_hi,
-            y_lo,
-            y_hi,
-        },
-        kits,
-    };
+    let tree = tree_of(
+        level, start, count, x_lo, x_hi, y_lo, y_hi, kits, entries, nodes, listed,
+    );
     words::lay(&check_words(inspect::check(&t, &tree)), answer)
 }
 
@@ -205,23 +226,9 @@ pub extern "C" fn longhorbi_search(
         return 0;
     }
     let t = Table { x, y, kit };
-    let tree = Tree {
-        shape: Shape {
-            nodes,
-            listed,
-            level,
-            start,
-            count,
-            entries,
-        },
-        sides: Sides {
-            x_lo,
-            x_hi,
-            y_lo,
-            y_hi,
-        },
-        kits,
-    };
+    let tree = tree_of(
+        level, start, count, x_lo, x_hi, y_lo, y_hi, kits, entries, nodes, listed,
+    );
     let found = search::search(&t, &tree, want, allowance);
     words::lay(&words::found_words(found), answer)
 }

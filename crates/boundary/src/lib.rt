@@ -276,11 +276,11 @@ pub extern "C" fn longhorbi_read(
     }
     let s = sheet::read(src, x, y, kit);
     let words = [
-        s.code as u64,
+        u64::from(s.code),
         s.at as u64,
         s.places as u64,
         s.want,
-        s.budget as u64,
+        u64::from(s.budget),
     ];
     words::lay(&words, answer)
 }

@@ -9,7 +9,7 @@ use lib.ListN.{length}
 use Rattle.table.specs.Table.{Table}
 use Rattle.tree.specs.Tree.{Tree}
 use Rattle.verdict.specs.Rules.{says}
-use Rattle.verdict.specs.declared.Verdict.{Verdict}
+use Rattle.verdict.specs.Rules.{Verdict}
 use Rattle.build.specs.Room as build
 use Rattle.rows.specs.Sheet.{Held}
 use Rattle.sheet.specs.Write as sheet

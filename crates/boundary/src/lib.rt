@@ -2,11 +2,12 @@
 // call gives how many words that is; where the array is shorter it gives 0 and does nothing.
 #![tactic(auto)]
 
-ghost use Rattle.std.specs.Prelude.{◌≡◌};
-ghost use Rattle.plane.specs.Plane.{measured};
+ghost use Rattle.std.specs.Prelude.{◌≡◌, [], ◌∷◌};
+ghost use Rattle.plane.specs.Plane.{measured, told};
 ghost use Rattle.plane.specs.Root.{Root};
 ghost use Rattle.verdict.specs.Families.{family_of};
-ghost use Rattle.verdict.specs.Rules.{verdict};
+ghost use Rattle.verdict.specs.Rules.{said, verdict};
+ghost use Rattle.build.specs.Lent.{counts};
 ghost use Rattle.table.specs.Table.{table};
 ghost use Rattle.tree.specs.Rules.{check_rules};
 ghost use Rattle.tree.specs.Lent.{shape, sides, tree};
@@ -18,6 +19,41 @@ ghost use Rattle.reply.specs.Reply.{printed};
 ghost use Rattle.words.specs.Words.{family_number, measured_words, verdict_words, found_words, sheet_words};
 ghost use Rattle.boundary.specs.Kept.{given, build_leaves, build_words, columns, write_leaves, write_words};
 ghost use Rattle.words.specs.Lines.{lines_of};
+
+use build::{Built, Columns};
+use table::Table;
+use tree::{Shape, Sides, Tree};
+use verdict::Refusal;
+
+// The words of a squared distance.
+fn measured(r: Result<u64, Refusal>) -> [u64; 3]
+    ensures { result ≡ measured_words (told r) }
+{
+    match r {
+        Ok(squared) => [0, 0, squared],
+        Err(e) => [u64::from(e.reason.code()), e.at as u64, 0],
+    }
+}
+
+// The words of what a call refuses.
+fn refusal(r: Result<(), Refusal>) -> [u64; 2]
+    ensures { result ≡ verdict_words (said r) }
+{
+    match r {
+        Ok(()) => [0, 0],
+        Err(e) => [u64::from(e.reason.code()), e.at as u64],
+    }
+}
+
+// The words of what the builder gives.
+fn built(r: Result<Built, Refusal>) -> [u64; 4]
+    ensures { result ≡ (said r).code ∷ (said r).at ∷ (counts r).0 ∷ (counts r).1 ∷ [] }
+{
+    match r {
+        Ok(b) => [0, 0, b.nodes as u64, b.listed as u64],
+        Err(e) => [u64::from(e.reason.code()), e.at as u64, 0, 0],
+    }
+}
 
 // The greatest whole number whose square is not above n.
 #[unsafe(no_mangle)]
@@ -53,9 +89,7 @@ pub extern "C" fn longhorbi_squared(ax: i32, ay: i32, bx: i32, by: i32, answer: 
     if answer.len() < 3 {
         return 0;
     }
-    let m = plane::squared(ax, ay, bx, by);
-    let words = [m.code as u64, m.at as u64, m.squared];
-    words::lay(&words, answer)
+    words::lay(&measured(plane::squared(ax, ay, bx, by)), answer)
 }
 
 // The check of a tree against its table, in 2 words: code, at.
@@ -83,11 +117,25 @@ pub extern "C" fn longhorbi_check(
     if answer.len() < 2 {
         return 0;
     }
-    let v = inspect::check(
-        x, y, kit, level, start, count, x_lo, x_hi, y_lo, y_hi, kits, entries, nodes, listed,
-    );
-    let words = [v.code as u64, v.at as u64];
-    words::lay(&words, answer)
+    let t = Table { x, y, kit };
+    let tree = Tree {
+        shape: Shape {
+            nodes,
+            listed,
+            level,
+            start,
+            count,
+            entries,
+        },
+        sides: Sides {
+            x_lo,
+            x_hi,
+            y_lo,
+            y_hi,
+        },
+        kits,
+    };
+    words::lay(&refusal(inspect::check(&t, &tree)), answer)
 }
 
 // Builds the tree of a table in lent columns, in 4 words: code, at, nodes, listed.
@@ -114,11 +162,19 @@ pub extern "C" fn longhorbi_build(
     if answer.len() < 4 {
         return 0;
     }
-    let b = build::build(
-        x, y, kit, level, start, count, x_lo, x_hi, y_lo, y_hi, kits, entries,
-    );
-    let words = [b.code as u64, b.at as u64, b.nodes as u64, b.listed as u64];
-    words::lay(&words, answer)
+    let t = Table { x, y, kit };
+    let into = Columns {
+        level,
+        start,
+        count,
+        x_lo,
+        x_hi,
+        y_lo,
+        y_hi,
+        kits,
+        entries,
+    };
+    words::lay(&built(build::build(&t, into)), answer)
 }
 
 // The places that together hold a wanted kit and lie closest, in 13 words: code, at, eight places, squared, steps, known.
@@ -148,12 +204,26 @@ pub extern "C" fn longhorbi_search(
     if answer.len() < 13 {
         return 0;
     }
-    let f = search::search(
-        x, y, kit, level, start, count, x_lo, x_hi, y_lo, y_hi, kits, entries, nodes, listed, want,
-        allowance,
-    );
-    let words = words::found_words(f);
-    words::lay(&words, answer)
+    let t = Table { x, y, kit };
+    let tree = Tree {
+        shape: Shape {
+            nodes,
+            listed,
+            level,
+            start,
+            count,
+            entries,
+        },
+        sides: Sides {
+            x_lo,
+            x_hi,
+            y_lo,
+            y_hi,
+        },
+        kits,
+    };
+    let f = search::search(&t, &tree, want, allowance);
+    words::lay(&words::found_words(f), answer)
 }
 
 // Writes the sheet of a table, a want and a budget at the start of a lent buffer, in 3 words: code, at, bytes.

@@ -2,7 +2,7 @@
 -- Assumes nothing.
 use mathlib.Core.Path.{◌≡◌, refl, ◌∙◌}
 use mathlib.Core.List.{List, [], ◌∷◌, ◌++◌}
-use Prim.Native.Nat.{ℕ, ◌≤◌}
+use Prim.Native.Nat.{ℕ}
 use native.Mathlib.Omega.{arith}
 use lib.IntN.{ℤ}
 use lib.ListN.{drop}
@@ -24,7 +24,7 @@ use Rattle.verdict.specs.declared.Refusal.{Refusal}
 use Rattle.verdict.proofs.RuleLaws.{breaks_at, holds_all, stopped}
 use Rattle.levels.specs.Levels.{nodes, listed, level_at, start_at, count_at}
 use Rattle.levels.specs.Built.{box_at, kit_at, entries_of, column, built}
-use Rattle.build.specs.Room.{rule41, over, written_over}
+use Rattle.build.specs.Room.{rule41, Needs, over, written_over}
 use Rattle.levels.proofs.LaidLaws.{length_entries}
 
 -- a valid table can be put in order
@@ -32,19 +32,13 @@ pub plotted : {t : Table} → Valid t → Plotted t.x t.y
 plotted v = let e = valid_even v in record { few = e.few; even = e.y; x = λ p l. (valid_ranged v p l).x.lo; y = λ p l. (valid_ranged v p l).y.lo }
 
 -- a refusal's number is none that says that nothing is refused
-numbered : (r : Reason) → number r ≡ 0 → ⊥
+pub numbered : (r : Reason) → number r ≡ 0 → ⊥
 numbered r e = grind arith
 
 -- a result that hands on what the first rules refuse says what all of them come to
 pub handed_on : {A : Type 0} (rs more : List Rule) (r : Result A Refusal) (e : Refusal) → IsErrAnd r (λ x. x ≡ e) → says (number e.reason) e.at ≡ verdict rs → said r ≡ verdict (rs ++ more)
 handed_on rs more (Ok _) e k h = absurd k
 handed_on rs more (Err x) e k h = rw k (stopped rs more _ h (numbered e.reason))
-
--- the tree over a table needs k nodes and j entries
-pub record Needs (t : Table) (k j : ℕ) : Type 0 where
-  pub few : places t ≤ 4096
-  pub nodes_is : k ≡ nodes (places t)
-  pub listed_is : j ≡ listed (places t)
 
 module _ {t : Table} {k j : ℕ} (n : Needs t k j) where
   -- rule 41 asks for that room

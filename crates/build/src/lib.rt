@@ -1,10 +1,10 @@
 // The builder: a tree over a table, in lent columns.
 #![tactic(auto)]
 
-ghost use Rattle.std.specs.Prelude.{◌≡◌};
+ghost use Rattle.std.specs.Prelude.{◌≡◌, IfOk};
 ghost use Rattle.tree.specs.Rules.{lengths};
 ghost use Rattle.verdict.specs.Rules.{said, verdict};
-ghost use Rattle.build.specs.Room.{build_rules, afterwards};
+ghost use Rattle.build.specs.Room.{build_rules, Needs, afterwards};
 ghost use Rattle.build.specs.Lent.{lent, left, counted};
 
 use fill::Values;
@@ -52,9 +52,10 @@ pub struct Built {
     pub listed: usize,
 }
 
-// What the builder refuses: the table's faults, then a lent column that is too short.
-fn refusal(t: &Table, room: Lengths) -> Result<(), Refusal>
-    ensures { said result ≡ verdict (build_rules t.now room) }
+// What the tree needs, or what the builder refuses: the table's faults, then a lent column that is too short.
+fn needs(t: &Table, room: Lengths) -> Result<Built, Refusal>
+    ensures refused { said result ≡ verdict (build_rules t.now room) }
+    ensures needed { IfOk result (λ b. Needs t.now b.nodes b.listed) }
 {
     table::check(t)?;
     let nodes = fill::count_nodes(t.x.len());
@@ -65,7 +66,7 @@ fn refusal(t: &Table, room: Lengths) -> Result<(), Refusal>
             at: 0,
         });
     }
-    Ok(())
+    Ok(Built { nodes, listed })
 }
 
 // Builds the tree of a table in lent columns: 11, 12, 41; in a refusal nothing lent is changed.
@@ -73,7 +74,7 @@ pub fn build(t: &Table, into: Columns) -> Result<Built, Refusal>
     ensures refused { said result ≡ verdict (build_rules t.now (lengths (lent into.entry))) }
     ensures columns_after { counted result (left into.exit) ≡ afterwards (said result).code t.now (lent into.entry) }
 {
-    refusal(t, into.lengths())?;
+    let b = needs(t, into.lengths())?;
     let Columns {
         level,
         start,
@@ -85,14 +86,11 @@ pub fn build(t: &Table, into: Columns) -> Result<Built, Refusal>
         kits,
         entries,
     } = into;
-    let n = t.x.len();
-    let nodes = fill::count_nodes(n);
-    let listed = fill::count_listed(n, nodes);
-    fill::fill_runs(n, nodes, level, start, count);
-    fill::fill_entries(t, listed, entries);
+    fill::fill_runs(t.x.len(), b.nodes, level, start, count);
+    fill::fill_entries(t, b.listed, entries);
     let shape = Shape {
-        nodes,
-        listed,
+        nodes: b.nodes,
+        listed: b.listed,
         level,
         start,
         count,
@@ -106,5 +104,5 @@ pub fn build(t: &Table, into: Columns) -> Result<Built, Refusal>
         kits,
     };
     fill::fill_values(t, &shape, values);
-    Ok(Built { nodes, listed })
+    Ok(b)
 }

@@ -52,7 +52,7 @@ pub fn pack(x: &[i32], y: &[i32], to: &mut [u64])
     ensures { to.new ≡
         words_of x.now y.now ++ drop (length x.now) to.old }
 {
-    for p in 0..x.len() {
-        to[p] = key_of(x[p], y[p]) * 4096 + p as u64;
+    for (p, (x, y)) in x.iter().zip(y).enumerate() {
+        to[p] = key_of(*x, *y) * 4096 + p as u64;
     }
 }

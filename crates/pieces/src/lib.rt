@@ -2,13 +2,14 @@
 #![tactic(auto)]
 
 ghost use Rattle.std.specs.Prelude.{◌≡◌, List, ℕ, ◌≤◌, length};
-ghost use Rattle.table.specs.Table.{table, Even};
+ghost use Rattle.table.specs.Table.{table, places, Even};
 ghost use Rattle.print.specs.Puts.{Puts};
 ghost use Rattle.print.specs.Wrote.{HasRoom, Wrote};
 ghost use Rattle.rows.specs.Sheet.{asked, sheet_bytes};
 ghost use Rattle.rows.specs.Pieces.{head_text, place_text, places_text, query_text};
 
 use print::{Bits, Number, Page};
+use table::Table;
 
 // The bytes of a place's four lines: 34 beside its three numbers, whatever its kit word.
 fn place_size(i: usize, x: i32, y: i32) -> usize
@@ -18,13 +19,13 @@ fn place_size(i: usize, x: i32, y: i32) -> usize
 }
 
 // Internal: the bytes of a sheet: 56 beside its places and two numbers, whatever the kit words and the want.
-pub fn size_of(x: &[i32], y: &[i32], budget: u32) -> usize
-    requires { (length y.now ≡ length x.now) × (length x.now ≤ 4096) }
-    ensures { (kit : List ℕ) (want : ℕ) → length kit ≡ length x.now → result ≡ length (sheet_bytes (asked (table x.now y.now kit) want budget)) }
+pub fn size_of(t: &Table, budget: u32) -> usize
+    requires { (length t.now.y ≡ places t.now) × (places t.now ≤ 4096) }
+    ensures { (kit : List ℕ) (want : ℕ) → length kit ≡ places t.now → result ≡ length (sheet_bytes (asked (table t.now.x t.now.y kit) want budget)) }
 {
-    let mut size = 56 + (x.len() as u64).width() + u64::from(budget).width();
-    for (i, x) in x.iter().enumerate() {
-        size += place_size(i, *x, y[i]);
+    let mut size = 56 + (t.x.len() as u64).width() + u64::from(budget).width();
+    for (i, x) in t.x.iter().enumerate() {
+        size += place_size(i, *x, t.y[i]);
     }
     size
 }
@@ -52,12 +53,12 @@ fn put_place(page: &mut Page<'_>, i: usize, x: i32, y: i32, kit: u64)
 }
 
 // The lines of all places.
-fn put_places(page: &mut Page<'_>, x: &[i32], y: &[i32], kit: &[u64])
-    requires { Even (table x.now y.now kit.now) × HasRoom page.old (places_text (table x.now y.now kit.now) (length x.now)) }
-    ensures { Wrote page.old (places_text (table x.now y.now kit.now) (length x.now)) page.new }
+fn put_places(page: &mut Page<'_>, t: &Table)
+    requires { Even t.now × HasRoom page.old (places_text t.now (places t.now)) }
+    ensures { Wrote page.old (places_text t.now (places t.now)) page.new }
 {
-    for (i, x) in x.iter().enumerate() {
-        put_place(page, i, *x, y[i], kit[i]);
+    for (i, x) in t.x.iter().enumerate() {
+        put_place(page, i, *x, t.y[i], t.kit[i]);
     }
 }
 
@@ -73,13 +74,13 @@ fn put_query(page: &mut Page<'_>, want: u64, budget: u32)
 }
 
 // Internal: the whole sheet at the start of a buffer that has room for it; gives how many bytes it has.
-pub fn put_sheet(out: &mut [u8], x: &[i32], y: &[i32], kit: &[u64], want: u64, budget: u32) -> usize
-    requires { Even (table x.now y.now kit.now) × (length (sheet_bytes (asked (table x.now y.now kit.now) want budget)) ≤ length out.old) }
-    ensures { Puts out.old 0 (sheet_bytes (asked (table x.now y.now kit.now) want budget)) result out.new }
+pub fn put_sheet(out: &mut [u8], t: &Table, want: u64, budget: u32) -> usize
+    requires { Even t.now × (length (sheet_bytes (asked t.now want budget)) ≤ length out.old) }
+    ensures { Puts out.old 0 (sheet_bytes (asked t.now want budget)) result out.new }
 {
     let mut page = Page { out, at: 0 };
-    put_head(&mut page, x.len());
-    put_places(&mut page, x, y, kit);
+    put_head(&mut page, t.places());
+    put_places(&mut page, t);
     put_query(&mut page, want, budget);
     page.at
 }

@@ -1,7 +1,7 @@
 -- One text put after another is the two as one; the digits that `io` makes are a number's text.
 -- Assumes nothing.
 use Prim.Native.Nat.{ℕ, ◌+◌, ◌^◌, ◌≤◌, ◌<◌}
-use mathlib.Core.Path.{◌≡◌, ap, ap₂, sym, ◌∙◌, subst}
+use mathlib.Core.Path.{◌≡◌, ap, ap₂, sym, ◌∙◌}
 use mathlib.Core.List.{List, ◌++◌, append_assoc}
 use native.Mathlib.Omega.{arith}
 use lib.ListN.{length, take, drop, length-append, length-drop}
@@ -15,13 +15,6 @@ use Rattle.print.specs.Puts.{Puts}
 module _ {o : List ℕ} {at : ℕ} {t : List ℕ} {r : ℕ} {o₁ : List ℕ} (u : List ℕ) (fits : at + length (t ++ u) ≤ length o) (p : Puts o at t r o₁) where
   before : length (take at o ++ t) ≡ at + length t
   before = length-append (take at o) t ∙ omega (arith, length-take-le at o (omega arith), length-append t u)
-
-  pub puts_length : length o₁ ≡ length o
-  puts_length = ap length p.bytes ∙ length-append (take at o ++ t) (drop (at + length t) o) ∙ omega (arith, before, length-drop (at + length t) o, length-append t u)
-
-  -- what follows has room behind the text
-  pub room_after : r + length u ≤ length o₁
-  room_after = omega (arith, puts_length, p.end, length-append t u)
 
   pub puts_then : {r₂ : ℕ} {o₂ : List ℕ} → Puts o₁ r u r₂ o₂ → Puts o at (t ++ u) r₂ o₂
   puts_then q =
@@ -37,18 +30,6 @@ module _ {o : List ℕ} {at : ℕ} {t : List ℕ} {r : ℕ} {o₁ : List ℕ} (u
         end = q.end ∙ omega (arith, p.end, length-append t u);
         bytes = q.bytes ∙ ap₂ (λ (x y : List ℕ). x ++ u ++ y) head tail ∙ ap (λ (x : List ℕ). x ++ drop (at + length (t ++ u)) o) (append_assoc (take at o) t u);
       }
-
--- the first of two texts has room where both have
-pub room_first : (t u : List ℕ) (n m : ℕ) → n + length (t ++ u) ≤ m → n + length t ≤ m
-room_first t u n m h = omega (arith, length-append t u)
-
--- the same by the text's name
-pub puts_text : {o : List ℕ} {at : ℕ} {t u : List ℕ} {r : ℕ} {o' : List ℕ} → t ≡ u → Puts o at t r o' → Puts o at u r o'
-puts_text {o} {at} {r = r} {o' = o'} e p = subst (λ (t : List ℕ). Puts o at t r o') e p
-
--- what stands at the start of a list
-pub puts_first : {o t : List ℕ} {r : ℕ} {o' : List ℕ} → Puts o 0 t r o' → take r o' ≡ t
-puts_first {o} {t} {r} p = ap (take r) p.bytes ∙ take_at t (drop (0 + length t) o) r (omega (arith, p.end))
 
 -- a buffer keeps its length
 pub puts_long : {o : List ℕ} {at : ℕ} {t : List ℕ} {r : ℕ} {o' : List ℕ} → at + length t ≤ length o → Puts o at t r o' → length o' ≡ length o

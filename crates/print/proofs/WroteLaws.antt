@@ -23,9 +23,6 @@ wrote_text {p} {q} e w = subst (λ t. Wrote p t q) e w
 pub wrote_length : {p q : Page} {t : List ℕ} → Wrote p t q → length q.out.now ≡ length p.out.now
 wrote_length w = puts_long w.room w.puts
 
--- the first of two texts has room where both have, and the second after the first
-pub room_first : (p : Page) (t u : List ℕ) → HasRoom p (t ++ u) → HasRoom p t
-room_first p t u h = omega (arith, length-append t u)
-
+-- of two texts the second has room after the first
 pub room_next : {p q : Page} {t : List ℕ} (u : List ℕ) → Wrote p t q → HasRoom p (t ++ u) → HasRoom q u
 room_next {t = t} u w h = omega (arith, length-append t u, wrote_length w, w.puts.end)

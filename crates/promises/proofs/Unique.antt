@@ -9,7 +9,7 @@ use Rattle.plane.proofs.RootLaws.{root_unique}
 use Rattle.table.specs.Table.{table}
 use Rattle.tree.specs.Tree.{Tree}
 use Rattle.tree.specs.Lent.{shape, sides, tree}
-use Rattle.verdict.specs.declared.Verdict.{Verdict}
+use Rattle.verdict.specs.Rules.{Verdict}
 use Rattle.verdict.specs.Rules.{says}
 use Rattle.build.specs.Room as build-specs
 use Rattle.rows.specs.Sheet.{Held, asked}

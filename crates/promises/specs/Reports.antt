@@ -2,7 +2,7 @@
 -- Assumes nothing.
 use Rattle.std.specs.Prelude.{List, [], ◌∷◌, ℕ, ◌+◌, ◌≤◌, ◌<◌}
 use Rattle.verdict.specs.Rules.{Rule, Holds, says}
-use Rattle.verdict.specs.declared.Verdict.{Verdict}
+use Rattle.verdict.specs.Rules.{Verdict}
 
 -- success where all rules hold; else the first broken rule, with the lowest of its places at which it breaks
 pub data Reports : List Rule → Verdict → Type 1 where

@@ -15,7 +15,7 @@ pub struct Run<T> {
     pub value: T,
 }
 
-// A form of values that can be read in one go. Where nothing is read, no fault is found: the line may be good.
+// Internal: a form of values that can be read in one go. Where nothing is read, no fault is found: the line may be good.
 pub trait QuickForm: ValueForm {
     // A value, up to a line feed.
     fn to_feed(&self, t: &[u8]) -> Option<Run<Self::Value>>

@@ -25,11 +25,6 @@ pub led_empty : (t : List ℕ) → length t ≡ 0 → NoZero t → ⊥
 led_empty [] h z = z
 led_empty (c ∷ t) h z = omega arith
 
-pub led_one : (t : List ℕ) → length t ≡ 1 → NoZero t
-led_one [] h = absurd (omega arith)
-led_one (c ∷ []) h = tt
-led_one (c ∷ (d ∷ t)) h = absurd (omega arith)
-
 -- digits
 pub digit_make : (c : ℕ) → 48 ≤ c → c ≤ 57 → Digit 10 c
 digit_make c h k =

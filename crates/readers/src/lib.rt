@@ -45,7 +45,7 @@ pub struct Line<T> {
     pub value: T,
 }
 
-// A form of values, as `lines` has them, that can be read.
+// Internal: a form of values, as `lines` has them, that can be read.
 pub trait ValueForm {
     type Value;
 

@@ -2,36 +2,18 @@
 // two trees at the depth limit.
 #![tactic(auto)]
 
-// A table, as it is lent to a call.
-#[derive(Clone, Copy)]
-struct Table<'a> {
-    x: &'a [i32],
-    y: &'a [i32],
-    kit: &'a [u64],
-}
-
-// A tree, as it is lent to a call.
-#[derive(Clone, Copy)]
-struct Tree<'a> {
-    nodes: usize,
-    listed: usize,
-    level: &'a [u8],
-    start: &'a [u16],
-    count: &'a [u8],
-    entries: &'a [u16],
-    x_lo: &'a [i32],
-    x_hi: &'a [i32],
-    y_lo: &'a [i32],
-    y_hi: &'a [i32],
-    kits: &'a [u64],
-}
+use build::Columns;
+use table::Table;
+use tree::{Shape, Sides, Tree};
 
 // Harbour H.
-const HARBOUR: Table<'static> = Table {
-    x: &[0, 3, 10, 10],
-    y: &[0, 4, 0, 5],
-    kit: &[1, 2, 1, 2],
-};
+fn harbour() -> Table<'static> {
+    Table {
+        x: &[0, 3, 10, 10],
+        y: &[0, 4, 0, 5],
+        kit: &[1, 2, 1, 2],
+    }
+}
 
 fn put(word: &[u8], n: u64) {
     io::write_all(1, word);
@@ -51,30 +33,12 @@ fn show(f: &found::Found) {
     io::write_all(1, b"\n");
 }
 
-fn over_tree(table: Table<'_>, tree: Tree<'_>, want: u64, allowance: u32) {
-    let f = search::search(
-        table.x,
-        table.y,
-        table.kit,
-        tree.level,
-        tree.start,
-        tree.count,
-        tree.x_lo,
-        tree.x_hi,
-        tree.y_lo,
-        tree.y_hi,
-        tree.kits,
-        tree.entries,
-        tree.nodes,
-        tree.listed,
-        want,
-        allowance,
-    );
-    show(&f);
+fn over_tree(table: &Table<'_>, tree: &Tree<'_>, want: u64, allowance: u32) {
+    show(&search::search(table, tree, want, allowance));
 }
 
 // The lent columns are longer than the tree of a few places needs.
-fn over_built(table: Table<'_>, want: u64, allowance: u32) {
+fn over_built(table: &Table<'_>, want: u64, allowance: u32) {
     let mut level = [0; 2];
     let mut start = [0; 2];
     let mut count = [0; 2];
@@ -84,34 +48,39 @@ fn over_built(table: Table<'_>, want: u64, allowance: u32) {
     let mut y_hi = [0; 2];
     let mut kits = [0; 2];
     let mut entries = [0; 16];
-    let b = build::build(
-        table.x,
-        table.y,
-        table.kit,
-        &mut level,
-        &mut start,
-        &mut count,
-        &mut x_lo,
-        &mut x_hi,
-        &mut y_lo,
-        &mut y_hi,
-        &mut kits,
-        &mut entries,
-    );
+    let into = Columns {
+        level: &mut level,
+        start: &mut start,
+        count: &mut count,
+        x_lo: &mut x_lo,
+        x_hi: &mut x_hi,
+        y_lo: &mut y_lo,
+        y_hi: &mut y_hi,
+        kits: &mut kits,
+        entries: &mut entries,
+    };
+    let (nodes, listed) = match build::build(table, into) {
+        Ok(b) => (b.nodes, b.listed),
+        Err(_) => (0, 0),
+    };
     let tree = Tree {
-        nodes: b.nodes,
-        listed: b.listed,
-        level: &level,
-        start: &start,
-        count: &count,
-        entries: &entries,
-        x_lo: &x_lo,
-        x_hi: &x_hi,
-        y_lo: &y_lo,
-        y_hi: &y_hi,
+        shape: Shape {
+            nodes,
+            listed,
+            level: &level,
+            start: &start,
+            count: &count,
+            entries: &entries,
+        },
+        sides: Sides {
+            x_lo: &x_lo,
+            x_hi: &x_hi,
+            y_lo: &y_lo,
+            y_hi: &y_hi,
+        },
         kits: &kits,
     };
-    over_tree(table, tree, want, allowance);
+    over_tree(table, &tree, want, allowance);
 }
 
 // Harbour H under the nodes 0, 6, 5, 4, 3, each below the one before; node 3 has leaf 2 with places
@@ -119,19 +88,23 @@ fn over_built(table: Table<'_>, want: u64, allowance: u32) {
 // 10 and node 5's kit word is 3.
 fn over_chain(nodes: usize, east: i32, word: u64, want: u64, allowance: u32) {
     let tree = Tree {
-        nodes,
-        listed: 10,
-        level: &[6, 1, 1, 2, 3, 4, 5],
-        start: &[0, 1, 3, 5, 7, 8, 9],
-        count: &[1, 2, 2, 2, 1, 1, 1],
-        entries: &[6, 1, 0, 3, 2, 2, 1, 3, 4, 5],
-        x_lo: &[0, 0, 10, 0, 0, 0, 0],
-        x_hi: &[10, 3, 10, 10, east, 10, 10],
-        y_lo: &[0, 0, 0, 0, 0, 0, 0],
-        y_hi: &[5, 4, 5, 5, 5, 5, 5],
+        shape: Shape {
+            nodes,
+            listed: 10,
+            level: &[6, 1, 1, 2, 3, 4, 5],
+            start: &[0, 1, 3, 5, 7, 8, 9],
+            count: &[1, 2, 2, 2, 1, 1, 1],
+            entries: &[6, 1, 0, 3, 2, 2, 1, 3, 4, 5],
+        },
+        sides: Sides {
+            x_lo: &[0, 0, 10, 0, 0, 0, 0],
+            x_hi: &[10, 3, 10, 10, east, 10, 10],
+            y_lo: &[0, 0, 0, 0, 0, 0, 0],
+            y_hi: &[5, 4, 5, 5, 5, 5, 5],
+        },
         kits: &[3, 3, 3, 3, 3, word, 3],
     };
-    over_tree(HARBOUR, tree, want, allowance);
+    over_tree(&harbour(), &tree, want, allowance);
 }
 
 // The depth limit: six levels and eight kinds, so that a group is 48 replacements below the root and
@@ -144,19 +117,23 @@ fn over_tall(allowance: u32) {
         kit: &[8, 1, 64, 2, 128, 16, 4, 32],
     };
     let tree = Tree {
-        nodes: 6,
-        listed: 13,
-        level: &[6, 5, 4, 3, 2, 1],
-        start: &[0, 1, 2, 3, 4, 5],
-        count: &[1, 1, 1, 1, 1, 8],
-        entries: &[1, 2, 3, 4, 5, 0, 1, 2, 3, 4, 5, 6, 7],
-        x_lo: &[0; 6],
-        x_hi: &[7; 6],
-        y_lo: &[0; 6],
-        y_hi: &[7; 6],
+        shape: Shape {
+            nodes: 6,
+            listed: 13,
+            level: &[6, 5, 4, 3, 2, 1],
+            start: &[0, 1, 2, 3, 4, 5],
+            count: &[1, 1, 1, 1, 1, 8],
+            entries: &[1, 2, 3, 4, 5, 0, 1, 2, 3, 4, 5, 6, 7],
+        },
+        sides: Sides {
+            x_lo: &[0; 6],
+            x_hi: &[7; 6],
+            y_lo: &[0; 6],
+            y_hi: &[7; 6],
+        },
         kits: &[255; 6],
     };
-    over_tree(table, tree, 255, allowance);
+    over_tree(&table, &tree, 255, allowance);
 }
 
 // As deep, with two ways down from the root: to leaf 10 with the places 0 to 3, two for each kind,
@@ -168,40 +145,44 @@ fn over_fork(allowance: u32) {
         kit: &[86, 45, 147, 232, 86, 45, 147, 232],
     };
     let tree = Tree {
-        nodes: 11,
-        listed: 18,
-        level: &[6, 5, 5, 4, 4, 3, 3, 2, 2, 1, 1],
-        start: &[0, 2, 3, 4, 5, 6, 7, 8, 9, 10, 14],
-        count: &[2, 1, 1, 1, 1, 1, 1, 1, 1, 4, 4],
-        entries: &[1, 2, 3, 4, 5, 6, 7, 8, 9, 10, 7, 6, 5, 4, 0, 1, 2, 3],
-        x_lo: &[0, 20, 0, 20, 0, 20, 0, 20, 0, 20, 0],
-        x_hi: &[25, 25, 5, 25, 5, 25, 5, 25, 5, 25, 5],
-        y_lo: &[0; 11],
-        y_hi: &[2; 11],
+        shape: Shape {
+            nodes: 11,
+            listed: 18,
+            level: &[6, 5, 5, 4, 4, 3, 3, 2, 2, 1, 1],
+            start: &[0, 2, 3, 4, 5, 6, 7, 8, 9, 10, 14],
+            count: &[2, 1, 1, 1, 1, 1, 1, 1, 1, 4, 4],
+            entries: &[1, 2, 3, 4, 5, 6, 7, 8, 9, 10, 7, 6, 5, 4, 0, 1, 2, 3],
+        },
+        sides: Sides {
+            x_lo: &[0, 20, 0, 20, 0, 20, 0, 20, 0, 20, 0],
+            x_hi: &[25, 25, 5, 25, 5, 25, 5, 25, 5, 25, 5],
+            y_lo: &[0; 11],
+            y_hi: &[2; 11],
+        },
         kits: &[255; 11],
     };
-    over_tree(table, tree, 255, allowance);
+    over_tree(&table, &tree, 255, allowance);
 }
 
 // S1 to S7.
 fn soundings() {
-    over_built(HARBOUR, 3, 7);
-    over_built(HARBOUR, 3, 6);
-    over_built(HARBOUR, 1, 3);
-    over_built(HARBOUR, 32, 0);
-    over_built(HARBOUR, 1, 0);
+    over_built(&harbour(), 3, 7);
+    over_built(&harbour(), 3, 6);
+    over_built(&harbour(), 1, 3);
+    over_built(&harbour(), 32, 0);
+    over_built(&harbour(), 1, 0);
     let one = Table {
         x: &[5],
         y: &[-5],
         kit: &[3],
     };
-    over_built(one, 3, 100);
+    over_built(&one, 3, 100);
     let none = Table {
         x: &[],
         y: &[],
         kit: &[],
     };
-    over_built(none, 1, 100);
+    over_built(&none, 1, 100);
 }
 
 // At every allowance: places 2, 3 are met first; 0, 1 tie and win at step 19, the last.
@@ -231,19 +212,21 @@ fn depth_limit() {
 // The want, the table, the tree; eight kinds and x = 1,000,000 are not refused for that.
 fn refusals() {
     for want in [0, 511, 255] {
-        over_built(HARBOUR, want, 7);
+        over_built(&harbour(), want, 7);
     }
     let short = Table {
+        x: &[0, 3, 10, 10],
         y: &[0, 4, 0],
-        ..HARBOUR
+        kit: &[1, 2, 1, 2],
     };
-    over_built(short, 3, 7);
+    over_built(&short, 3, 7);
     for x in [1000001, 1000000] {
         let wide = Table {
             x: &[0, 3, x, 10],
-            ..HARBOUR
+            y: &[0, 4, 0, 5],
+            kit: &[1, 2, 1, 2],
         };
-        over_built(wide, 3, 7);
+        over_built(&wide, 3, 7);
     }
     over_chain(6, 10, 3, 3, 100);
     over_chain(7, 11, 3, 3, 100);

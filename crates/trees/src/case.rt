@@ -2,8 +2,10 @@
 ghost use Rattle.std.specs.Prelude.{◌<◌};
 
 use crate::show::{put, put_signed};
-use build::Built;
-use verdict::Verdict;
+use build::{Built, Columns};
+use table::Table;
+use tree::{Shape, Sides, Tree};
+use verdict::Refusal;
 
 // Every lent column has room for the entry list of the largest tree.
 const ROOM: usize = 4368;
@@ -144,43 +146,53 @@ impl Case {
         }
     }
 
-    pub(crate) fn build(&mut self) -> Built {
-        let b = build::build(
-            first(&self.x, self.places),
-            first(&self.y, self.places),
-            first(&self.kit, self.places),
-            &mut self.level,
-            &mut self.start,
-            &mut self.count,
-            &mut self.x_lo,
-            &mut self.x_hi,
-            &mut self.y_lo,
-            &mut self.y_hi,
-            &mut self.kits,
-            &mut self.entries,
-        );
-        self.nodes = b.nodes;
-        self.listed = b.listed;
-        b
+    pub(crate) fn build(&mut self) -> Result<Built, Refusal> {
+        let table = Table {
+            x: first(&self.x, self.places),
+            y: first(&self.y, self.places),
+            kit: first(&self.kit, self.places),
+        };
+        let into = Columns {
+            level: &mut self.level,
+            start: &mut self.start,
+            count: &mut self.count,
+            x_lo: &mut self.x_lo,
+            x_hi: &mut self.x_hi,
+            y_lo: &mut self.y_lo,
+            y_hi: &mut self.y_hi,
+            kits: &mut self.kits,
+            entries: &mut self.entries,
+        };
+        let built = build::build(&table, into);
+        if let Ok(b) = built {
+            self.nodes = b.nodes;
+            self.listed = b.listed;
+        }
+        built
     }
 
-    pub(crate) fn check(&self) -> Verdict {
-        inspect::check(
-            first(&self.x, self.places),
-            first(&self.y, self.y_lent),
-            first(&self.kit, self.places),
-            &self.level,
-            &self.start,
-            &self.count,
-            &self.x_lo,
-            &self.x_hi,
-            &self.y_lo,
-            &self.y_hi,
-            first(&self.kits, self.kits_lent),
-            &self.entries,
-            self.nodes,
-            self.listed,
-        )
+    pub(crate) fn check(&self) -> Result<(), Refusal> {
+        let table = Table {
+            x: first(&self.x, self.places),
+            y: first(&self.y, self.y_lent),
+            kit: first(&self.kit, self.places),
+        };
+        let shape = Shape {
+            nodes: self.nodes,
+            listed: self.listed,
+            level: &self.level,
+            start: &self.start,
+            count: &self.count,
+            entries: &self.entries,
+        };
+        let sides = Sides {
+            x_lo: &self.x_lo,
+            x_hi: &self.x_hi,
+            y_lo: &self.y_lo,
+            y_hi: &self.y_hi,
+        };
+        let kits = first(&self.kits, self.kits_lent);
+        inspect::check(&table, &Tree { shape, sides, kits })
     }
 
     pub(crate) fn change(&mut self, c: Change) {

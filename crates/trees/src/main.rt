@@ -10,11 +10,15 @@ mod show;
 // Builds the tree of a table, changes one thing, checks, and says what came out. A small tree that was not changed is shown whole.
 fn trial(places: usize, change: Option<Change>) {
     let mut case = Case::new(places);
-    let b = case.build();
+    let built = case.build();
     put(b"places=", places as u64);
-    put(b" build=", u64::from(b.code));
-    put(b" nodes=", b.nodes as u64);
-    put(b" listed=", b.listed as u64);
+    let (code, nodes, listed) = match built {
+        Ok(b) => (0, b.nodes, b.listed),
+        Err(refusal) => (refusal.reason.code(), 0, 0),
+    };
+    put(b" build=", u64::from(code));
+    put(b" nodes=", nodes as u64);
+    put(b" listed=", listed as u64);
     match change {
         Some(c) => {
             put(b" column=", c.column as u64);
@@ -25,9 +29,12 @@ fn trial(places: usize, change: Option<Change>) {
         None if places <= 17 => case.show(),
         None => {}
     }
-    let v = case.check();
-    put(b" code=", u64::from(v.code));
-    put(b" at=", v.at as u64);
+    let (code, at) = match case.check() {
+        Ok(()) => (0, 0),
+        Err(refusal) => (refusal.reason.code(), refusal.at),
+    };
+    put(b" code=", u64::from(code));
+    put(b" at=", at as u64);
     io::write_all(1, b"\n");
 }
 

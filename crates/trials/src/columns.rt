@@ -28,30 +28,6 @@ pub(crate) fn put_column<V: Value>(page: &mut Page, column: &[V]) {
     }
 }
 
-// A table that is lent to a call to be read.
-#[derive(Clone, Copy)]
-pub(crate) struct LentTable<'a> {
-    pub x: &'a [i32],
-    pub y: &'a [i32],
-    pub kit: &'a [u64],
-}
-
-// A tree that is lent to a call to be read.
-#[derive(Clone, Copy)]
-pub(crate) struct LentTree<'a> {
-    pub nodes: usize,
-    pub listed: usize,
-    pub level: &'a [u8],
-    pub start: &'a [u16],
-    pub count: &'a [u8],
-    pub entries: &'a [u16],
-    pub x_lo: &'a [i32],
-    pub x_hi: &'a [i32],
-    pub y_lo: &'a [i32],
-    pub y_hi: &'a [i32],
-    pub kits: &'a [u64],
-}
-
 // The table of a case.
 #[derive(Drop)]
 pub(crate) struct Table<'a> {
@@ -61,8 +37,8 @@ pub(crate) struct Table<'a> {
 }
 
 impl Table<'_> {
-    pub(crate) fn lent(&self) -> LentTable<'_> {
-        LentTable {
+    pub(crate) fn lent(&self) -> table::Table<'_> {
+        table::Table {
             x: self.x,
             y: self.y,
             kit: self.kit,
@@ -95,37 +71,41 @@ pub(crate) struct Tree<'a> {
 }
 
 impl Tree<'_> {
-    pub(crate) fn lent(&self, nodes: usize, listed: usize) -> LentTree<'_> {
-        LentTree {
+    pub(crate) fn lent(&self, nodes: usize, listed: usize) -> tree::Tree<'_> {
+        let shape = tree::Shape {
             nodes,
             listed,
             level: self.level,
             start: self.start,
             count: self.count,
             entries: self.entries,
+        };
+        let sides = tree::Sides {
+            x_lo: self.x_lo,
+            x_hi: self.x_hi,
+            y_lo: self.y_lo,
+            y_hi: self.y_hi,
+        };
+        tree::Tree {
+            shape,
+            sides,
+            kits: self.kits,
+        }
+    }
+
+    pub(crate) fn build(&mut self, table: &table::Table) -> Result<build::Built, verdict::Refusal> {
+        let into = build::Columns {
+            level: self.level,
+            start: self.start,
+            count: self.count,
             x_lo: self.x_lo,
             x_hi: self.x_hi,
             y_lo: self.y_lo,
             y_hi: self.y_hi,
             kits: self.kits,
-        }
-    }
-
-    pub(crate) fn build(&mut self, table: LentTable<'_>) -> build::Built {
-        build::build(
-            table.x,
-            table.y,
-            table.kit,
-            self.level,
-            self.start,
-            self.count,
-            self.x_lo,
-            self.x_hi,
-            self.y_lo,
-            self.y_hi,
-            self.kits,
-            self.entries,
-        )
+            entries: self.entries,
+        };
+        build::build(table, into)
     }
 
     pub(crate) fn put(&self, page: &mut Page) {

@@ -3,7 +3,8 @@
 
 use cases::show::Page;
 use cases::words::{BadCase, Words};
-use columns::{LentTable, LentTree, Room, put_column, read_column};
+use columns::{Room, put_column, read_column};
+use verdict::Refusal;
 
 mod columns;
 
@@ -41,9 +42,9 @@ fn squared_case(words: &mut Words, page: &mut Page) -> Result<(), BadCase> {
     let ay = words.read()?;
     let bx = words.read()?;
     let by = words.read()?;
-    let m = plane::squared(ax, ay, bx, by);
-    page.put_verdict(m.code, m.at);
-    page.put_next(m.squared);
+    let measured = plane::squared(ax, ay, bx, by);
+    put_refusal(page, measured.err());
+    page.put_next(measured.unwrap_or(0));
     Ok(())
 }
 
@@ -53,23 +54,12 @@ fn root_case(words: &mut Words, page: &mut Page) -> Result<(), BadCase> {
     Ok(())
 }
 
-fn check_of(table: LentTable<'_>, tree: LentTree<'_>) -> verdict::Verdict {
-    inspect::check(
-        table.x,
-        table.y,
-        table.kit,
-        tree.level,
-        tree.start,
-        tree.count,
-        tree.x_lo,
-        tree.x_hi,
-        tree.y_lo,
-        tree.y_hi,
-        tree.kits,
-        tree.entries,
-        tree.nodes,
-        tree.listed,
-    )
+// What a call refuses, or 0 at 0.
+fn put_refusal(page: &mut Page, refusal: Option<Refusal>) {
+    match refusal {
+        Some(r) => page.put_verdict(r.reason.code(), r.at),
+        None => page.put_verdict(0, 0),
+    }
 }
 
 fn check_case(words: &mut Words, page: &mut Page, room: &mut Room) -> Result<(), BadCase> {
@@ -77,41 +67,20 @@ fn check_case(words: &mut Words, page: &mut Page, room: &mut Room) -> Result<(),
     let tree = room.tree.read(words)?;
     let nodes = words.read()?;
     let listed = words.read()?;
-    let v = check_of(table.lent(), tree.lent(nodes, listed));
-    page.put_verdict(v.code, v.at);
+    let checked = inspect::check(&table.lent(), &tree.lent(nodes, listed));
+    put_refusal(page, checked.err());
     Ok(())
 }
 
 fn build_case(words: &mut Words, page: &mut Page, room: &mut Room) -> Result<(), BadCase> {
     let table = room.table.read(words)?;
     let mut tree = room.tree.read(words)?;
-    let b = tree.build(table.lent());
-    page.put_verdict(b.code, b.at);
-    page.put_next(b.nodes);
-    page.put_next(b.listed);
+    let built = tree.build(&table.lent());
+    put_refusal(page, built.err());
+    page.put_next(built.map_or(0, |b| b.nodes));
+    page.put_next(built.map_or(0, |b| b.listed));
     tree.put(page);
     Ok(())
-}
-
-fn search_of(table: LentTable<'_>, tree: LentTree<'_>, want: u64, allowance: u32) -> found::Found {
-    search::search(
-        table.x,
-        table.y,
-        table.kit,
-        tree.level,
-        tree.start,
-        tree.count,
-        tree.x_lo,
-        tree.x_hi,
-        tree.y_lo,
-        tree.y_hi,
-        tree.kits,
-        tree.entries,
-        tree.nodes,
-        tree.listed,
-        want,
-        allowance,
-    )
 }
 
 fn search_case(words: &mut Words, page: &mut Page, room: &mut Room) -> Result<(), BadCase> {
@@ -121,7 +90,7 @@ fn search_case(words: &mut Words, page: &mut Page, room: &mut Room) -> Result<()
     let listed = words.read()?;
     let want = words.read()?;
     let allowance = words.read()?;
-    let f = search_of(table.lent(), tree.lent(nodes, listed), want, allowance);
+    let f = search::search(&table.lent(), &tree.lent(nodes, listed), want, allowance);
     put_found(page, &f);
     Ok(())
 }
@@ -141,10 +110,9 @@ fn write_case(words: &mut Words, page: &mut Page, room: &mut Room) -> Result<(),
     let want = words.read()?;
     let budget = words.read()?;
     let out = read_column(words, &mut room.bytes)?;
-    let t = table.lent();
-    let r = sheet::write(t.x, t.y, t.kit, want, budget, out);
-    page.put_verdict(r.code, r.at);
-    page.put_next(r.bytes);
+    let written = sheet::write(&table.lent(), want, budget, out);
+    put_refusal(page, written.err());
+    page.put_next(written.unwrap_or(0));
     put_column(page, out);
     Ok(())
 }

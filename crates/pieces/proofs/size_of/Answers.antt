@@ -11,32 +11,34 @@ use Rattle.rows.proofs.SizeLaws.{size_to, size_none, size_next, size_most, place
 use Rattle.pieces.proofs.size_of.Goals as goal
 
 pub overflow_add-size : goal.overflow_add-size
-overflow_add-size c = let n = length c.args.x.now in omega (arith, c.width.ensures, decimal_length n, width_most n)
+overflow_add-size c = let n = length c.t.inside.x.now in omega (arith, c.width.ensures, decimal_length n, width_most n)
 
 pub overflow_add-size-2 : goal.overflow_add-size-2
 overflow_add-size-2 c =
-    let n = length c.args.x.now in
+    let n = length c.t.inside.x.now in
     let b = c.from.result in
     omega (arith, c.width.ensures, decimal_length n, width_most n, c.width-2.ensures, decimal_length b, width_most b)
 
 pub loop-i-init : goal.loop-i-init
 loop-i-init c =
     let a = c.args in
-    omega (arith, c.width.ensures, decimal_length (length a.x.now), c.width-2.ensures, decimal_length c.from.result, ap width c.from.ensures, size_none a.x.now a.y.now)
+    omega (arith, c.width.ensures, decimal_length (length c.t.inside.x.now), c.width-2.ensures, decimal_length c.from.result, ap width c.from.ensures, size_none c.t.inside.x.now c.t.inside.y.now)
 
 pub overflow_add-size-in-loop-i : goal.overflow_add-size-in-loop-i
 overflow_add-size-in-loop-i c =
     let a = c.args in
     let i = c.loop-i.i in
-    let x : to_z w32 (of_z w32 (get_or a.x.now i (pos 0))) ≡ get_or a.x.now i (pos 0) = search (rules, to_z-of_z) in
-    let y : to_z w32 (of_z w32 (get_or a.y.now i (pos 0))) ≡ get_or a.y.now i (pos 0) = search (rules, to_z-of_z) in
+    let x : to_z w32 (of_z w32 (get_or c.t.inside.x.now i (pos 0))) ≡ get_or c.t.inside.x.now i (pos 0) = search (rules, to_z-of_z) in
+    let y : to_z w32 (of_z w32 (get_or c.t.inside.y.now i (pos 0))) ≡ get_or c.t.inside.y.now i (pos 0) = search (rules, to_z-of_z) in
     let more = rw (x, y) at (c.place_size-size.ensures 0) in
+    let few = rw (← c.t.view_is) at c.requires in
     omega (
       arith,
-      place_length i (get_or a.x.now i (pos 0)) (get_or a.y.now i (pos 0)) 0,
-      size_next a.x.now a.y.now i,
-      size_most a.x.now a.y.now (i + 1),
-      width_most (length a.x.now),
+      few.1,
+      place_length i (get_or c.t.inside.x.now i (pos 0)) (get_or c.t.inside.y.now i (pos 0)) 0,
+      size_next c.t.inside.x.now c.t.inside.y.now i,
+      size_most c.t.inside.x.now c.t.inside.y.now (i + 1),
+      width_most (length c.t.inside.x.now),
       width_most a.budget,
     )
 
@@ -44,17 +46,21 @@ pub loop-i-preserved : goal.loop-i-preserved
 loop-i-preserved c =
     let a = c.args in
     let i = c.loop-i.i in
-    let x : to_z w32 (of_z w32 (get_or a.x.now i (pos 0))) ≡ get_or a.x.now i (pos 0) = search (rules, to_z-of_z) in
-    let y : to_z w32 (of_z w32 (get_or a.y.now i (pos 0))) ≡ get_or a.y.now i (pos 0) = search (rules, to_z-of_z) in
+    let x : to_z w32 (of_z w32 (get_or c.t.inside.x.now i (pos 0))) ≡ get_or c.t.inside.x.now i (pos 0) = search (rules, to_z-of_z) in
+    let y : to_z w32 (of_z w32 (get_or c.t.inside.y.now i (pos 0))) ≡ get_or c.t.inside.y.now i (pos 0) = search (rules, to_z-of_z) in
     let more = rw (x, y) at (c.place_size-size.ensures 0) in
-    omega (arith, place_length i (get_or a.x.now i (pos 0)) (get_or a.y.now i (pos 0)) 0, size_next a.x.now a.y.now i)
+    omega (arith, place_length i (get_or c.t.inside.x.now i (pos 0)) (get_or c.t.inside.y.now i (pos 0)) 0, size_next c.t.inside.x.now c.t.inside.y.now i)
 
 pub returns : goal.returns
-returns c = λ kit want e.
-    let a = c.args in
-    let done : c.loop-i.i ≡ length a.x.now = omega arith in
+returns c =
+    let x = c.t.inside.x.now in
+    let y = c.t.inside.y.now in
+    let done : c.loop-i.i ≡ length x = omega arith in
+    let even = rw (← c.t.view_is) at c.requires in
+    rw (← c.t.view_is)
+    (λ kit want e.
     omega (
       arith,
-      ap (size_to a.x.now a.y.now) done,
-      sheet_length (table a.x.now a.y.now kit) want a.budget (record { y = c.requires.0; kit = e; few = c.requires.1 }),
-    )
+      ap (size_to x y) done,
+      sheet_length (table x y kit) want c.args.budget (record { y = even.0; kit = e; few = even.1 }),
+    ))

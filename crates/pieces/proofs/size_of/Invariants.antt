@@ -6,4 +6,4 @@ use Rattle.rows.proofs.SizeLaws.{size_to}
 use Rattle.pieces.proofs.size_of.Given as goal
 
 abbrev pub invariant-loop-i : goal.invariant-loop-i
-invariant-loop-i l = l.size ≡ 56 + width (length l.fn.x) + width l.budget + size_to l.fn.x l.y l.i
+invariant-loop-i l = l.size ≡ 56 + width (length l.t-inside.x.now) + width l.budget + size_to l.t-inside.x.now l.t-inside.y.now l.i

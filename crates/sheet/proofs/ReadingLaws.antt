@@ -47,6 +47,10 @@ unfolding read_sheet sheet_part
 sheet_codes s c l e =
     codes_all sheet_part (codes_viewed held counted (after (fixed (ascii "sheet=") (ascii "1")) body_part) (codes_after (fixed (ascii "sheet=") (ascii "1")) body_part (codes_line (ascii "sheet=") (word (ascii "1"))) codes_body)) s c l e
 
+-- the result and the three columns where reading comes to o
+abbrev pub Done : Outcome Held → Sheet → List ℤ → List ℤ → List ℕ → List ℤ → List ℤ → List ℕ → Type 0
+Done o r x y k x' y' k' = (r ≡ sheet_of o) × ((x' ≡ column_after (λ h. h.table.x) o x) × ((y' ≡ column_after (λ h. h.table.y) o y) × (k' ≡ column_after (λ h. h.table.kit) o k)))
+
 module _ (s : List ℕ) (r : Sheet) (e : r ≡ sheet_of (read_sheet s)) where
   result : (o : Outcome Held) → read_sheet s ≡ o → r ≡ sheet_of o
   result o f = e ∙ ap (λ (o : Outcome Held). sheet_of o) f

@@ -15,13 +15,8 @@ use Rattle.tree.specs.Tree.{Tree}
 use Rattle.tree.specs.Lent.{shape, sides, tree}
 use Rattle.tree.specs.Rules.{Room}
 use Rattle.tree.specs.declared.Lengths.{Lengths}
-use Rattle.std.proofs.Common.{Result, Ok, Err}
-use Rattle.std.specs.Result.{IsErrAnd}
-use Rattle.verdict.specs.Numbers.{number}
-use Rattle.verdict.specs.Rules.{Rule, Holds, verdict, says, said}
-use Rattle.verdict.specs.declared.Reason.{Reason}
-use Rattle.verdict.specs.declared.Refusal.{Refusal}
-use Rattle.verdict.proofs.RuleLaws.{breaks_at, holds_all, stopped}
+use Rattle.verdict.specs.Rules.{Holds, verdict, says}
+use Rattle.verdict.proofs.RuleLaws.{breaks_at, holds_all}
 use Rattle.levels.specs.Levels.{nodes, listed, level_at, start_at, count_at}
 use Rattle.levels.specs.Built.{box_at, kit_at, entries_of, column, built}
 use Rattle.build.specs.Room.{rule41, Needs, over, written_over}
@@ -30,15 +25,6 @@ use Rattle.levels.proofs.LaidLaws.{length_entries}
 -- a valid table can be put in order
 pub plotted : {t : Table} → Valid t → Plotted t.x t.y
 plotted v = let e = valid_even v in record { few = e.few; even = e.y; x = λ p l. (valid_ranged v p l).x.lo; y = λ p l. (valid_ranged v p l).y.lo }
-
--- a refusal's number is none that says that nothing is refused
-pub numbered : (r : Reason) → number r ≡ 0 → ⊥
-numbered r e = grind arith
-
--- a result that hands on what the first rules refuse says what all of them come to
-pub handed_on : {A : Type 0} (rs more : List Rule) (r : Result A Refusal) (e : Refusal) → IsErrAnd r (λ x. x ≡ e) → says (number e.reason) e.at ≡ verdict rs → said r ≡ verdict (rs ++ more)
-handed_on rs more (Ok _) e k h = absurd k
-handed_on rs more (Err x) e k h = rw k (stopped rs more _ h (numbered e.reason))
 
 module _ {t : Table} {k j : ℕ} (n : Needs t k j) where
   -- rule 41 asks for that room

@@ -11,23 +11,24 @@ use lib.ListN.{take, set}
 use Rattle.kit.specs.Kit.{held}
 use Rattle.plane.specs.declared.Box.{Box}
 use Rattle.table.specs.Table.{Table}
-use Rattle.tree.specs.Tree.{Tree, Sides, Thing, thing, level, box_of, kit_of}
+use Rattle.tree.specs.Tree.{Tree, Sides, thing, level, box_of, kit_of}
 use Rattle.walks.specs.Allowance.{Stand, stand}
 use Rattle.closest.specs.Group.{farthest}
 use Rattle.closest.specs.Candidate.{topmost, group_of}
 use Rattle.members.specs.declared.Members.{Members}
 use Rattle.members.specs.declared.Want.{Want}
-use Rattle.members.specs.Boxes.{without, boxes_at}
+use Rattle.members.specs.Boxes.{without, AllRanged, boxes_at}
 use Rattle.members.specs.Columns.{sides_of, with_member}
 use Rattle.members.specs.Levels.{levels_at, next_top, next_high}
 use Rattle.members.specs.Best.{Best, near, Stepped}
 use Rattle.members.proofs.LevelLaws.{top_on, top_back, high_on, high_back, levels_eight, levels_next}
-use Rattle.groups.specs.Members.{Member, things_of, wanted, candidate, members_at}
+use Rattle.groups.specs.Members.{Member, boxes_of, things_of, wanted, candidate, members_at}
 use Rattle.groups.specs.Opening.{Opened, Led}
 use Rattle.groups.specs.Leads.{Near}
 use Rattle.groups.specs.declared.Opening.{Opening}
-use Rattle.groups.proofs.ColumnLaws.{Eight, put, members_set, Beside}
-use Rattle.groups.proofs.NextLaws.{lower, next, next_fair, next_things, lower_is, top_below, more_below, member_is, comes, near_so, far_so}
+use Rattle.groups.proofs.ColumnLaws.{boxes_of_lem, Eight, put, members_set, Beside, others_same}
+use Rattle.groups.proofs.OpenLaws.{boxes_ranged}
+use Rattle.groups.proofs.NextLaws.{lower, next, next_long, next_fair, next_things, lower_is, top_below, more_below, member_is, comes, near_so, far_so}
 use Rattle.groups.proofs.LoopLaws.{goes_on, stops}
 use Rattle.groups.proofs.RoundLaws.{Round, cand, readied, down, top_in, top_so, Goes, Ends, ended, named, y, box_so, far, far_is, holding}
 
@@ -40,9 +41,6 @@ falls m top high few h p = go (dec_lt (top + 1) m)
     go (no l) = omega (arith, top_back m top (omega arith), high_back m top high (omega arith))
 
 module _ {t : Table} {tree : Tree} {w : Want} {top high : ℕ} {c : Members} {o : Opening} (z : Round t tree w top high c o) (k : ℕ) (b : k < o.many) where
-  things : List Thing
-  things = things_of (take w.m (cand z))
-
   inside : top < w.m
   inside = top_in z.passes w z.few top high c z.opened
 
@@ -64,11 +62,13 @@ module _ {t : Table} {tree : Tree} {w : Want} {top high : ℕ} {c : Members} {o 
         low : high - 1 ≡ level tree.shape (y z k b)
         low = lower_is (readied z) z.few.most high (down z) (y z k b) (lower (readied z) k b)
 
+    pub came_ranged : AllRanged (take w.m (boxes_at (sides_of made)))
+    came_ranged =
+        subst AllRanged (ap (λ (q : List Member). boxes_of (take w.m q)) (sym came_so) ∙ boxes_of_lem _ made.numbers (sides_of made) w.m)
+        (boxes_ranged z.passes (wanted w) w.m came (next_long (readied z) k b) (next_fair (readied z) k b))
+
   -- it is no group
   module _ (some : 0 < next_high w.m top high) where
-    below : List Thing
-    below = set (things_of (take w.m (cand z))) o.top (y z k b)
-
     left : 0 < next_high w.m o.top high
     left = subst (λ (i : ℕ). 0 < next_high w.m i high) (sym (top_so z)) some
 
@@ -124,10 +124,11 @@ module _ {t : Table} {tree : Tree} {w : Want} {top high : ℕ} {c : Members} {o 
       pub goes_below : r ≡ false → Goes z from after learnt (k + 1)
       goes_below n = went_on some g near h y' q i' led_so n
 
-  -- what the test of its box says
-  module _ {d : Box} (is : d ≡ box_of t tree.sides (thing o.leaf (named z k b))) (best : Best) {r : Bool} (e : r ≡ near best.known best.squared (farthest d (without top (take w.m (boxes_at (sides_of c)))))) where
+  -- what the test of its box says, in columns that differ in the topmost member at most
+  module _ (eight : Eight c.numbers (sides_of c)) {own : Members} (eight' : Eight own.numbers (sides_of own)) (beside : Beside top own.numbers (sides_of own) c.numbers (sides_of c)) {d : Box} (is : d ≡ box_of t tree.sides (thing o.leaf (named z k b)))
+      (best : Best) {r : Bool} (e : r ≡ near best.known best.squared (farthest d (without top (take w.m (boxes_at (sides_of own)))))) where
     test : r ≡ near best.known best.squared (far z k b)
-    test = e ∙ ap (near best.known best.squared) (far_is z k b is)
+    test = e ∙ ap (λ (l : List Box). near best.known best.squared (farthest d l)) (others_same w.m top beside eight' eight z.few.most inside) ∙ ap (near best.known best.squared) (far_is z k b is)
 
     pub near_next : r ≡ true → Near best (far z k b)
     near_next n = near_so best (far z k b) (sym test ∙ n)

@@ -3,7 +3,7 @@
 
 ghost use Rattle.std.specs.Prelude.{◌≡◌, ◌≤◌, length};
 ghost use Rattle.kit.specs.Kit.{kinds};
-ghost use Rattle.table.specs.Table.{Table as Places};
+ghost use Rattle.table.specs.Table.{Table};
 ghost use Rattle.closest.specs.Walk.{begins};
 ghost use Rattle.verdict.specs.Rules.{said, verdict};
 ghost use Rattle.walk.specs.State.{walked};
@@ -61,7 +61,7 @@ pub fn want_fault(want: u64) -> Result<(), Refusal>
 // Internal: does the root hold every wanted kind?
 pub fn root_holds(tree: &Tree, want: u64) -> bool
     requires { tree.now.shape.nodes ≤ length tree.now.kits }
-    ensures { (t : Places) → result ≡ begins t tree.now (kinds want) }
+    ensures { (t : Table) → result ≡ begins t tree.now (kinds want) }
 {
     let shape = &tree.shape;
     let kits = tree.kits;

@@ -55,11 +55,6 @@ pub record Going (t : Table) (tree : Tree) (kinds : List ℕ) (allowance m : ℕ
   pub near : Near best (spread (boxes_of (take m cand)))
   pub eight : length best.places ≡ 8
 
--- before the first entry
-pub at_first : {t : Table} {tree : Tree} {kinds : List ℕ} {allowance m : ℕ} {cand : List Member} {o : Opening} {steps : ℕ} {best : Best} →
-    Near best (spread (boxes_of (take m cand))) → length best.places ≡ 8 → Going t tree kinds allowance m cand o (stand steps false best) steps best 0
-at_first n l = record { some = omega arith; led = refl; near = n; eight = l }
-
 module _ {t : Table} {tree : Tree} {kinds : List ℕ} {m : ℕ} {cand : List Member} {o : Opening} (r : Ready t tree kinds m cand o) (allowance : ℕ) (from : Stand Best) where
   abbrev c : List Thing
   c = things_of (take m cand)

@@ -23,7 +23,7 @@ use Rattle.build.specs.Room.{build_rules, over, written_over}
 use Rattle.levels.proofs.LevelLaws.{nodes_few, listed_is}
 use Rattle.levels.proofs.LaidLaws.{length_entries}
 use Rattle.own.specs.Own.{used}
-use Rattle.build.proofs.BuildLaws.{numbered}
+use Rattle.verdict.proofs.SaidLaws.{numbered}
 use Rattle.build.proofs.PassLaws.{built_passes}
 
 over_nothing : {A : Type 0} (l : List A) → over l [] ≡ l

@@ -26,12 +26,6 @@ box_test b c = both _ _ (span_test b.x c.x) (span_test b.y c.y) (ap₂ box) (ap 
 told : {P : Type 0} {r s : Bool} → r ≡ s → Decides s P → Decides r P
 told e d = (λ t. d.0 (sym e ∙ t), λ p. e ∙ d.1 p)
 
-pub same_spans : {s t : Span} {r : Bool} → r ≡ (int_eq s.lo t.lo && int_eq s.hi t.hi) → Decides r (s ≡ t)
-same_spans {s} {t} e = told e (span_test s t)
-
-pub same_boxes : {b c : Box} {r : Bool} → r ≡ ((int_eq b.x.lo c.x.lo && int_eq b.x.hi c.x.hi) && (int_eq b.y.lo c.y.lo && int_eq b.y.hi c.y.hi)) → Decides r (b ≡ c)
-same_boxes {b} {c} e = told e (box_test b c)
-
 -- and what `!=` on boxes says
 pub other_boxes : {b c : Box} {r : Bool} → r ≡ not ((int_eq b.x.lo c.x.lo && int_eq b.x.hi c.x.hi) && (int_eq b.y.lo c.y.lo && int_eq b.y.hi c.y.hi))
     → (r ≡ true → b ≡ c → ⊥) × (r ≡ false → b ≡ c)

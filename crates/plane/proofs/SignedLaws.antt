@@ -23,10 +23,6 @@ wide f = sfits_widen tt f
 pub widened : {z : ℤ} → SFits w32 z → to_z w64 (of_z w64 (to_z w32 (of_z w32 z))) ≡ z
 widened f = rw (to_z-of_z f, to_z-of_z (wide f))
 
--- the bits tell two i32 apart
-pub bits_inj : {a b : ℤ} → SFits w32 a → SFits w32 b → of_z w32 a ≡ of_z w32 b → a ≡ b
-bits_inj f g e = sym (to_z-of_z f) ∙ ap (to_z w32) e ∙ to_z-of_z g
-
 -- how large an i32 is
 pub size : {z : ℤ} → SFits w32 z → up z + down z ≤ 2 ^ 31
 size {z = pos n} f = omega (arith, f.sfits)
@@ -59,10 +55,6 @@ diff_of f g p q = rw (p, q, diff_held f g)
 abs_fits : (z : ℤ) → SFits w64 z → Fits w64 (nat_abs z)
 abs_fits (pos n) f = omega (arith, f.sfits)
 abs_fits (negsuc n) f = omega (arith, f.sfits)
-
--- a difference that is not below 0, cast to u64
-pub diff_cast : {a b : ℤ} → SFits w32 a → SFits w32 b → Le b a → T (non_neg (a -ℤ b)) × Fits w64 (nat_abs (a -ℤ b))
-diff_cast {a} {b} f g l = (not_below_zero (a -ℤ b) (omega (arith, diff_is a b)), abs_fits (a -ℤ b) (diff_fits f g))
 
 -- the square of a difference of coordinates in range, and its cast
 mag_square : (z : ℤ) → mag (z *ℤ z) ≡ nat_abs z * nat_abs z

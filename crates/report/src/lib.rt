@@ -24,14 +24,8 @@ pub fn put_group(page: &mut Page<'_>, want: u64, places: &[u16])
     requires { HasRoom page.old (group_lines (kinds want) places.now) }
     ensures { Wrote page.old (group_lines (kinds want) places.now) page.new }
 {
-    let mut places = places.iter();
-    for kind in 0..64 {
-        if kit::holds(want, kind) {
-            let Some(place) = places.next() else {
-                break;
-            };
-            put_need(page, kind as u64, u64::from(*place));
-        }
+    for (kind, place) in (0..64).filter(|kind| kit::holds(want, *kind)).zip(places) {
+        put_need(page, kind as u64, u64::from(*place));
     }
 }
 

@@ -110,10 +110,9 @@ fn write_case(words: &mut Words, page: &mut Page, room: &mut Room) -> Result<(),
     let want = words.read()?;
     let budget = words.read()?;
     let out = read_column(words, &mut room.bytes)?;
-    let t = table.lent();
-    let r = sheet::write(t.x, t.y, t.kit, want, budget, out);
-    page.put_verdict(r.code, r.at);
-    page.put_next(r.bytes);
+    let written = sheet::write(&table.lent(), want, budget, out);
+    put_refusal(page, written.err());
+    page.put_next(written.unwrap_or(0));
     put_column(page, out);
     Ok(())
 }

@@ -38,8 +38,8 @@ pub fn walk_all(t: &Table, tree: &Tree, w: &Want) -> State
     }
     let shape = &tree.shape;
     let level = shape.level;
-    let roots = Members::alike(0, tree.sides.box_at(0));
-    let spent = descent::descend(t, tree, w, 0, level[0], &roots, &mut p);
+    let mut roots = Members::alike(0, tree.sides.box_at(0));
+    let spent = descent::descend(t, tree, w, 0, level[0], &mut roots, &mut p);
     State {
         steps: p.steps,
         spent,

@@ -4,7 +4,8 @@ use Rattle.table.proofs.TableLaws.{valid_even}
 use Rattle.verdict.specs.Rules.{says, verdict}
 use Rattle.verdict.proofs.RuleLaws.{passed, passed_on}
 use Rattle.build.specs.Room.{rule41, Needs}
-use Rattle.build.proofs.BuildLaws.{handed_on, no_room, room_enough}
+use Rattle.verdict.proofs.SaidLaws.{handed_on}
+use Rattle.build.proofs.BuildLaws.{no_room, room_enough}
 use Rattle.build.proofs.needs.Goals as goal
 use Rattle.build.proofs.needs.Goals.{After-count_listed-listed}
 

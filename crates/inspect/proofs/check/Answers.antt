@@ -1,14 +1,12 @@
-use Rattle.std.proofs.lemmas.Result.{err_from_is_err_and}
 use Rattle.table.specs.Table.{table_rules}
 use Rattle.table.proofs.TableLaws.{valid_even}
-use Rattle.verdict.proofs.SaidLaws.{refused_on, held_on, none_refused}
+use Rattle.verdict.proofs.SaidLaws.{handed_on, held_on, none_refused}
 use Rattle.tree.specs.Rules.{tree_rules}
 use Rattle.inspect.proofs.check.Goals as goal
 
 pub returns-in_err-check : goal.returns-in_err-check
 returns-in_err-check c =
-    let p = err_from_is_err_and c.from_residual.result c.from_residual.ensures.1 in
-    rw (p.1, p.2) (refused_on (table_rules c.args.t.now) (tree_rules c.args.t.now c.args.tree.now) _ c.in_err-check.ensures)
+    handed_on (table_rules c.args.t.now) (tree_rules c.args.t.now c.args.tree.now) _ c.in_err-check.field-0.0 c.from_residual.ensures.1 c.in_err-check.ensures
 
 pub check_tree-requires : goal.check_tree-requires
 check_tree-requires c = valid_even (none_refused (table_rules c.args.t.now) c.in_ok-check.ensures)

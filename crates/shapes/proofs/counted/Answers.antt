@@ -31,8 +31,8 @@ returns-then-places-eq0 c =
     (λ h.
     let due = h.all in
     elim ways [
-      then-places-eq0-via-then-places-eq0 w ↦ c.if-nodes-eq0.false (h.empty.1 w.if-places-eq0.true)
-    | then-places-eq0-via-else-places-eq0+then-listed-places w ↦ w.if-listed-places.true due
+      | then-places-eq0-via-then-places-eq0 w ↦ c.if-nodes-eq0.false (h.empty.1 w.if-places-eq0.true)
+      | then-places-eq0-via-else-places-eq0+then-listed-places w ↦ w.if-listed-places.true due
     ]))
 
 pub returns-then-not-has_room : goal.returns-then-not-has_room

@@ -1,9 +1,8 @@
 -- A refusal keeps all; else the whole sheet is put.
 use Rattle.std.proofs.Common.{◌≡◌, [], ◌∷◌, length, arith}
-use Rattle.std.proofs.lemmas.Result.{err_from_is_err_and}
 use Rattle.table.specs.Table.{table_rules}
 use Rattle.table.proofs.TableLaws.{valid_even}
-use Rattle.verdict.proofs.SaidLaws.{refused_on, held_on, none_refused}
+use Rattle.verdict.proofs.SaidLaws.{handed_on, held_on, none_refused}
 use Rattle.rows.specs.Sheet.{asked, sheet_bytes}
 use Rattle.sheet.specs.Write.{rule54}
 use Rattle.sheet.proofs.WriteLaws.{too_short, long_enough}
@@ -11,9 +10,8 @@ use Rattle.sheet.proofs.write.Goals as goal
 
 pub returns-in_err-check-clause-refused : goal.returns-in_err-check-clause-refused
 returns-in_err-check-clause-refused c =
-    let p = err_from_is_err_and c.from_residual.result c.from_residual.ensures.1 in
     let h = asked c.args.t.now c.args.want c.args.budget in
-    rw (p.1, p.2) (refused_on (table_rules c.args.t.now) (rule54 h (length c.args.out.now) ∷ []) _ c.in_err-check.ensures)
+    handed_on (table_rules c.args.t.now) (rule54 h (length c.args.out.now) ∷ []) _ c.in_err-check.field-0.0 c.from_residual.ensures.1 c.in_err-check.ensures
 
 pub size_of-requires : goal.size_of-requires
 size_of-requires c = let e = valid_even (none_refused (table_rules c.args.t.now) c.in_ok-check.ensures) in (e.y, e.few)

@@ -1,74 +1,83 @@
 // The printed answer of a search.
 #![tactic(auto)]
 
-ghost use Rattle.std.specs.Prelude.{◌≡◌, ◌≤◌, length};
+ghost use Rattle.std.specs.Prelude.{◌≡◌, ◌+◌, ◌≤◌, length};
 ghost use Rattle.kit.specs.Kit.{kinds};
-ghost use Rattle.print.specs.Puts.{Puts};
-ghost use Rattle.report.specs.Answer.{found_lines, stopped_lines, refused_lines, answer_lines};
+ghost use Rattle.print.specs.Wrote.{HasRoom, Wrote};
+ghost use Rattle.report.specs.Answer.{end_line, found_lines, stopped_lines, refused_lines, answer_lines};
 ghost use Rattle.answer.specs.Lent.{laid, holding};
 
-// A group that was found.
-fn put_found(out: &mut [u8], squared: u64, steps: u32, want: u64, places: &[u16]) -> usize
-    requires { length (found_lines squared steps (kinds want) places.now) ≤ length out.old }
-    ensures { Puts out.old 0 (found_lines squared steps (kinds want) places.now) result out.new }
+use print::Page;
+
+// The last line of every answer.
+fn put_end(page: &mut Page<'_>)
+    requires { HasRoom page.old end_line }
+    ensures { Wrote page.old end_line page.new }
 {
-    let a = print::put(out, 0, b"answer=found\n");
-    let b = report::put_measure(out, a, squared, steps);
-    let c = report::put_group(out, b, want, places);
-    print::put(out, c, b"end=answer\n")
+    page.put(b"end=answer\n");
+}
+
+// A group that was found.
+#[tactic(auto, unfolding(report::specs::Answer::found_lines))]
+fn put_found(page: &mut Page<'_>, squared: u64, steps: u32, want: u64, places: &[u16])
+    requires { HasRoom page.old (found_lines squared steps (kinds want) places.now) }
+    ensures { Wrote page.old (found_lines squared steps (kinds want) places.now) page.new }
+{
+    page.put(b"answer=found\n");
+    report::put_measure(page, squared, steps);
+    report::put_group(page, want, places);
+    put_end(page);
 }
 
 // None, or spent.
-fn put_stopped(out: &mut [u8], word: &[u8], steps: u32) -> usize
-    requires { length (stopped_lines word.now steps) ≤ length out.old }
-    ensures { Puts out.old 0 (stopped_lines word.now steps) result out.new }
+#[tactic(auto, unfolding(report::specs::Answer::stopped_lines))]
+fn put_stopped(page: &mut Page<'_>, word: &[u8], steps: u32)
+    requires { HasRoom page.old (stopped_lines word.now steps) }
+    ensures { Wrote page.old (stopped_lines word.now steps) page.new }
 {
-    let a = print::put_word_line(out, 0, b"answer=", word);
-    let b = print::put_number_line(out, a, b"steps=", steps as u64);
-    print::put(out, b, b"end=answer\n")
+    page.put_line(b"answer=", word);
+    page.put_line(b"steps=", u64::from(steps));
+    put_end(page);
 }
 
 // A refusal.
-fn put_refused(out: &mut [u8], code: u8, at: usize) -> usize
-    requires { length (refused_lines code at) ≤ length out.old }
-    ensures { Puts out.old 0 (refused_lines code at) result out.new }
+#[tactic(auto, unfolding(report::specs::Answer::refused_lines))]
+fn put_refused(page: &mut Page<'_>, code: u8, at: usize)
+    requires { HasRoom page.old (refused_lines code at) }
+    ensures { Wrote page.old (refused_lines code at) page.new }
 {
-    let a = print::put(out, 0, b"answer=refused\n");
-    let b = print::put_number_line(out, a, b"code=", code as u64);
-    let c = report::put_family(out, b, code);
-    let d = print::put_number_line(out, c, b"at=", at as u64);
-    print::put(out, d, b"end=answer\n")
+    page.put(b"answer=refused\n");
+    page.put_line(b"code=", u64::from(code));
+    report::put_family(page, code);
+    page.put_line(b"at=", at as u64);
+    put_end(page);
 }
 
-// The answer into a buffer that has room for every answer.
-fn put_answer(found: found::Found, want: u64, out: &mut [u8]) -> usize
-    requires { 534 ≤ length out.old }
-    ensures { Puts out.old 0 (answer_lines found want) result out.new }
+// The answer onto a page that has room for every answer.
+fn put_answer(page: &mut Page<'_>, found: &found::Found, want: u64)
+    requires { page.old.at + 534 ≤ length page.old.out.now }
+    ensures { Wrote page.old (answer_lines found.now want) page.new }
 {
-    if found.code == 0 {
-        let places = found.places;
-        return put_found(out, found.squared, found.steps, want, &places);
+    match found.code {
+        0 => put_found(page, found.squared, found.steps, want, &found.places),
+        31 => put_stopped(page, b"none", found.steps),
+        32 => put_stopped(page, b"spent", found.steps),
+        _ => put_refused(page, found.code, found.at),
     }
-    if found.code == 31 {
-        return put_stopped(out, b"none", found.steps);
-    }
-    if found.code == 32 {
-        return put_stopped(out, b"spent", found.steps);
-    }
-    put_refused(out, found.code, found.at)
 }
 
-// The answer through a buffer that has room for every answer into one that may have less.
-fn lay(found: found::Found, want: u64, text: &mut [u8], out: &mut [u8]) -> usize
-    requires { 534 ≤ length text.old }
-    ensures value { result ≡ laid (answer_lines found want) out.old }
-    ensures out_after { out.new ≡ holding (answer_lines found want) out.old }
+// Internal: what is given, at the start of a lent buffer; gives how many elements that are.
+// Where the buffer is shorter it gives 0 and changes nothing.
+pub fn lay<T: Copy>(given: &[T], out: &mut [T]) -> usize
+    ensures value { result ≡ laid given.now out.old }
+    ensures out_after { out.new ≡ holding given.now out.old }
 {
-    let n = put_answer(found, want, text);
+    let n = given.len();
     if out.len() < n {
         return 0;
     }
-    print::put(out, 0, &text[..n])
+    out[..n].copy_from_slice(given);
+    n
 }
 
 // The lines for what the search of a want gave, at the start of a lent buffer; gives how many bytes they are.
@@ -78,5 +87,11 @@ pub fn lines(found: found::Found, want: u64, out: &mut [u8]) -> usize
     ensures out_after { out.new ≡ holding (answer_lines found want) out.old }
 {
     let mut text = [0u8; 534];
-    lay(found, want, &mut text, out)
+    let mut page = Page {
+        out: &mut text,
+        at: 0,
+    };
+    put_answer(&mut page, &found, want);
+    let n = page.at;
+    lay(&text[..n], out)
 }

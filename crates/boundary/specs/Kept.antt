@@ -7,7 +7,7 @@ use Rattle.tree.specs.Tree.{Tree}
 use Rattle.tree.specs.Lent.{shape, tree}
 use Rattle.tree.specs.Rules.{lengths}
 use Rattle.verdict.specs.Rules.{verdict}
-use Rattle.verdict.specs.declared.Verdict.{Verdict}
+use Rattle.verdict.specs.Rules.{Verdict}
 use Rattle.build.specs.Room as build
 use Rattle.rows.specs.Sheet.{Held}
 use Rattle.sheet.specs.Write as sheet

@@ -2,11 +2,12 @@
 // call gives how many words that is; where the array is shorter it gives 0 and does nothing.
 #![tactic(auto)]
 
-ghost use Rattle.std.specs.Prelude.{◌≡◌};
-ghost use Rattle.plane.specs.Plane.{measured};
+ghost use Rattle.std.specs.Prelude.{◌≡◌, [], ◌∷◌};
+ghost use Rattle.plane.specs.Plane.{measured, told};
 ghost use Rattle.plane.specs.Root.{Root};
 ghost use Rattle.verdict.specs.Families.{family_of};
-ghost use Rattle.verdict.specs.Rules.{verdict};
+ghost use Rattle.verdict.specs.Rules.{said, verdict};
+ghost use Rattle.build.specs.Lent.{counts};
 ghost use Rattle.table.specs.Table.{table};
 ghost use Rattle.tree.specs.Rules.{check_rules};
 ghost use Rattle.tree.specs.Lent.{shape, sides, tree};
@@ -19,6 +20,76 @@ ghost use Rattle.words.specs.Words.{family_number, measured_words, verdict_words
 ghost use Rattle.boundary.specs.Kept.{given, build_leaves, build_words, columns, write_leaves, write_words};
 ghost use Rattle.words.specs.Lines.{lines_of};
 
+use build::{Built, Columns};
+use table::Table;
+use tree::{Shape, Sides, Tree};
+use verdict::Refusal;
+
+// The words of a call that gives one number.
+fn number_words(r: Result<u64, Refusal>) -> [u64; 3]
+    ensures { result ≡ measured_words (told r) }
+{
+    match r {
+        Ok(number) => [0, 0, number],
+        Err(e) => [u64::from(e.reason.code()), e.at as u64, 0],
+    }
+}
+
+// The words of a check.
+fn check_words(r: Result<(), Refusal>) -> [u64; 2]
+    ensures { result ≡ verdict_words (said r) }
+{
+    match r {
+        Ok(()) => [0, 0],
+        Err(e) => [u64::from(e.reason.code()), e.at as u64],
+    }
+}
+
+// The words of what the builder gives.
+fn built_words(r: Result<Built, Refusal>) -> [u64; 4]
+    ensures { result ≡ (said r).code ∷ (said r).at ∷ (counts r).0 ∷ (counts r).1 ∷ [] }
+{
+    match r {
+        Ok(b) => [0, 0, b.nodes as u64, b.listed as u64],
+        Err(e) => [u64::from(e.reason.code()), e.at as u64, 0, 0],
+    }
+}
+
+// The tree that C lends column by column.
+fn tree_of<'a>(
+    level: &'a [u8],
+    start: &'a [u16],
+    count: &'a [u8],
+    x_lo: &'a [i32],
+    x_hi: &'a [i32],
+    y_lo: &'a [i32],
+    y_hi: &'a [i32],
+    kits: &'a [u64],
+    entries: &'a [u16],
+    nodes: usize,
+    listed: usize,
+) -> Tree<'a>
+    ensures { result ≡ tree (shape nodes listed level.now start.now count.now entries.now) (sides x_lo.now x_hi.now y_lo.now y_hi.now) kits.now }
+{
+    Tree {
+        shape: Shape {
+            nodes,
+            listed,
+            level,
+            start,
+            count,
+            entries,
+        },
+        sides: Sides {
+            x_lo,
+            x_hi,
+            y_lo,
+            y_hi,
+        },
+        kits,
+    }
+}
+
 // The greatest whole number whose square is not above n.
 #[unsafe(no_mangle)]
 pub extern "C" fn longhorbi_root(n: u64) -> u64
@@ -28,12 +99,12 @@ pub extern "C" fn longhorbi_root(n: u64) -> u64
 }
 
 // The number of the family of a refusal number: 0 none, 1 query, 2 table, 3 tree, 4 search, 5 room, 6 sheet.
+#[tactic(auto, unfolding(words::specs::Words::family_number))]
 #[unsafe(no_mangle)]
 pub extern "C" fn longhorbi_family(code: u8) -> u8
     ensures { result ≡ family_number (family_of code) }
 {
-    let from = verdict::family(code);
-    match from {
+    match verdict::family(code) {
         verdict::From::NoRefusal => 0,
         verdict::From::Query => 1,
         verdict::From::Table => 2,
@@ -53,9 +124,7 @@ pub extern "C" fn longhorbi_squared(ax: i32, ay: i32, bx: i32, by: i32, answer: 
     if answer.len() < 3 {
         return 0;
     }
-    let m = plane::squared(ax, ay, bx, by);
-    let words = [m.code as u64, m.at as u64, m.squared];
-    words::lay(&words, answer)
+    words::lay(&number_words(plane::squared(ax, ay, bx, by)), answer)
 }
 
 // The check of a tree against its table, in 2 words: code, at.
@@ -83,11 +152,11 @@ pub extern "C" fn longhorbi_check(
     if answer.len() < 2 {
         return 0;
     }
-    let v = inspect::check(
-        x, y, kit, level, start, count, x_lo, x_hi, y_lo, y_hi, kits, entries, nodes, listed,
+    let t = Table { x, y, kit };
+    let tree = tree_of(
+        level, start, count, x_lo, x_hi, y_lo, y_hi, kits, entries, nodes, listed,
     );
-    let words = [v.code as u64, v.at as u64];
-    words::lay(&words, answer)
+    words::lay(&check_words(inspect::check(&t, &tree)), answer)
 }
 
 // Builds the tree of a table in lent columns, in 4 words: code, at, nodes, listed.
@@ -114,11 +183,19 @@ pub extern "C" fn longhorbi_build(
     if answer.len() < 4 {
         return 0;
     }
-    let b = build::build(
-        x, y, kit, level, start, count, x_lo, x_hi, y_lo, y_hi, kits, entries,
-    );
-    let words = [b.code as u64, b.at as u64, b.nodes as u64, b.listed as u64];
-    words::lay(&words, answer)
+    let t = Table { x, y, kit };
+    let into = Columns {
+        level,
+        start,
+        count,
+        x_lo,
+        x_hi,
+        y_lo,
+        y_hi,
+        kits,
+        entries,
+    };
+    words::lay(&built_words(build::build(&t, into)), answer)
 }
 
 // The places that together hold a wanted kit and lie closest, in 13 words: code, at, eight places, squared, steps, known.
@@ -148,12 +225,12 @@ pub extern "C" fn longhorbi_search(
     if answer.len() < 13 {
         return 0;
     }
-    let f = search::search(
-        x, y, kit, level, start, count, x_lo, x_hi, y_lo, y_hi, kits, entries, nodes, listed, want,
-        allowance,
+    let t = Table { x, y, kit };
+    let tree = tree_of(
+        level, start, count, x_lo, x_hi, y_lo, y_hi, kits, entries, nodes, listed,
     );
-    let words = words::found_words(f);
-    words::lay(&words, answer)
+    let found = search::search(&t, &tree, want, allowance);
+    words::lay(&words::found_words(found), answer)
 }
 
 // Writes the sheet of a table, a want and a budget at the start of a lent buffer, in 3 words: code, at, bytes.
@@ -174,9 +251,9 @@ pub extern "C" fn longhorbi_write(
     if answer.len() < 3 {
         return 0;
     }
-    let w = sheet::write(x, y, kit, want, budget, out);
-    let words = [w.code as u64, w.at as u64, w.bytes as u64];
-    words::lay(&words, answer)
+    let t = Table { x, y, kit };
+    let written = sheet::write(&t, want, budget, out).map(|bytes| bytes as u64);
+    words::lay(&number_words(written), answer)
 }
 
 // Reads a sheet into lent columns, in 5 words: code, at, places, want, budget.
@@ -199,11 +276,11 @@ pub extern "C" fn longhorbi_read(
     }
     let s = sheet::read(src, x, y, kit);
     let words = [
-        s.code as u64,
+        u64::from(s.code),
         s.at as u64,
         s.places as u64,
         s.want,
-        s.budget as u64,
+        u64::from(s.budget),
     ];
     words::lay(&words, answer)
 }

@@ -2,7 +2,7 @@
 -- Assumes nothing.
 use mathlib.Core.Path.{◌≡◌, refl, ◌∙◌}
 use mathlib.Core.List.{List, [], ◌∷◌, ◌++◌}
-use Prim.Native.Nat.{ℕ, zero, suc, ◌≤◌}
+use Prim.Native.Nat.{ℕ}
 use native.Mathlib.Omega.{arith}
 use lib.IntN.{ℤ}
 use lib.ListN.{drop}
@@ -19,23 +19,12 @@ use Rattle.verdict.specs.Rules.{Holds, verdict, says}
 use Rattle.verdict.proofs.RuleLaws.{breaks_at, holds_all}
 use Rattle.levels.specs.Levels.{nodes, listed, level_at, start_at, count_at}
 use Rattle.levels.specs.Built.{box_at, kit_at, entries_of, column, built}
-use Rattle.build.specs.Room.{rule41, over, written_over, afterwards}
+use Rattle.build.specs.Room.{rule41, Needs, over, written_over}
 use Rattle.levels.proofs.LaidLaws.{length_entries}
 
 -- a valid table can be put in order
 pub plotted : {t : Table} → Valid t → Plotted t.x t.y
 plotted v = let e = valid_even v in record { few = e.few; even = e.y; x = λ p l. (valid_ranged v p l).x.lo; y = λ p l. (valid_ranged v p l).y.lo }
-
--- in a refusal all is kept
-pub kept : (code : ℕ) (t : Table) (before : Tree) → (code ≡ 0 → ⊥) → before ≡ afterwards code t before
-kept zero t before n = absurd (n refl)
-kept (suc code) t before n = refl
-
--- the tree over a table needs k nodes and j entries
-pub record Needs (t : Table) (k j : ℕ) : Type 0 where
-  pub few : places t ≤ 4096
-  pub nodes_is : k ≡ nodes (places t)
-  pub listed_is : j ≡ listed (places t)
 
 module _ {t : Table} {k j : ℕ} (n : Needs t k j) where
   -- rule 41 asks for that room

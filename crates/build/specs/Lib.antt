@@ -1,2 +1,3 @@
 -- What the contracts of the builder cite.
 pub mod Room
+pub mod Lent

@@ -1,6 +1,6 @@
 -- What the builder refuses, and what it leaves in the lent columns.
 -- Assumes nothing.
-use Rattle.std.specs.Prelude.{List, [], ◌∷◌, ◌++◌, ℕ, zero, suc, length, drop}
+use Rattle.std.specs.Prelude.{◌≡◌, ◌≤◌, List, [], ◌∷◌, ◌++◌, ℕ, zero, suc, length, drop}
 use Rattle.std.proofs.Common.{lit≤}
 use Rattle.table.specs.Table.{Table, places, table_rules}
 use Rattle.tree.specs.Tree.{Tree}
@@ -9,6 +9,12 @@ use Rattle.tree.specs.declared.Lengths.{Lengths}
 use Rattle.verdict.specs.Rules.{Rule}
 use Rattle.levels.specs.Levels.{nodes, listed}
 use Rattle.levels.specs.Built.{built}
+
+-- the tree over a table needs k nodes and j entries
+pub record Needs (t : Table) (k j : ℕ) : Type 0 where
+  pub few : places t ≤ 4096
+  pub nodes_is : k ≡ nodes (places t)
+  pub listed_is : j ≡ listed (places t)
 
 -- 41: no lent column is too short for the builder
 abbrev pub rule41 : Table → Lengths → Rule

@@ -1,88 +1,108 @@
 // The builder: a tree over a table, in lent columns.
 #![tactic(auto)]
 
-ghost use Rattle.std.specs.Prelude.{◌≡◌};
-ghost use Rattle.table.specs.Table.{table};
-ghost use Rattle.tree.specs.Lent.{shape, sides, tree};
+ghost use Rattle.std.specs.Prelude.{◌≡◌, IfOk};
 ghost use Rattle.tree.specs.Rules.{lengths};
-ghost use Rattle.verdict.specs.Rules.{verdict, says};
-ghost use Rattle.build.specs.Room.{build_rules, afterwards};
+ghost use Rattle.verdict.specs.Rules.{said, verdict};
+ghost use Rattle.build.specs.Room.{build_rules, Needs, afterwards};
+ghost use Rattle.build.specs.Lent.{lent, left, counted};
 
-// The builder's answer; the counts are 0 in a refusal.
+use fill::Values;
+use table::Table;
+use tree::{Lengths, Shape};
+use verdict::{Reason, Refusal};
+
+// The columns that are lent to the builder.
+#[derive(Drop)]
+pub struct Columns<'a> {
+    pub level: &'a mut [u8],
+    pub start: &'a mut [u16],
+    pub count: &'a mut [u8],
+    pub x_lo: &'a mut [i32],
+    pub x_hi: &'a mut [i32],
+    pub y_lo: &'a mut [i32],
+    pub y_hi: &'a mut [i32],
+    pub kits: &'a mut [u64],
+    pub entries: &'a mut [u16],
+}
+
+impl<'a> Columns<'a> {
+    // How long they are.
+    fn lengths(&self) -> Lengths
+        ensures { result ≡ lengths (lent self.now) }
+    {
+        Lengths {
+            level: self.level.len(),
+            start: self.start.len(),
+            count: self.count.len(),
+            entries: self.entries.len(),
+            x_lo: self.x_lo.len(),
+            x_hi: self.x_hi.len(),
+            y_lo: self.y_lo.len(),
+            y_hi: self.y_hi.len(),
+            kits: self.kits.len(),
+        }
+    }
+}
+
+// How many nodes and entries the builder's tree has.
 #[derive(Clone, Copy)]
 pub struct Built {
-    pub code: u8,
-    pub at: usize,
     pub nodes: usize,
     pub listed: usize,
 }
 
-// What the builder refuses: the table's faults, then a lent column that is too short.
-fn refusal(x: &[i32], y: &[i32], kit: &[u64], lent: tree::Lengths) -> verdict::Verdict
-    ensures { result ≡ verdict (build_rules (table x.now y.now kit.now) lent) }
+// What the tree needs, or what the builder refuses: the table's faults, then a lent column that is too short.
+fn needs(t: &Table, room: Lengths) -> Result<Built, Refusal>
+    ensures refused { said result ≡ verdict (build_rules t.now room) }
+    ensures needed { IfOk result (λ b. Needs t.now b.nodes b.listed) }
 {
-    let v = table::check(x, y, kit);
-    if v.code != 0 {
-        return v;
+    table::check(t)?;
+    let nodes = fill::count_nodes(t.x.len());
+    let listed = fill::count_listed(t.x.len(), nodes);
+    if !tree::has_room(nodes, listed, room) {
+        return Err(Refusal {
+            reason: Reason::NoRoom,
+            at: 0,
+        });
     }
-    let nodes = fill::count_nodes(x.len());
-    let listed = fill::count_listed(x.len(), nodes);
-    if !tree::has_room(nodes, listed, lent) {
-        return verdict::Verdict { code: 41, at: 0 };
-    }
-    verdict::Verdict { code: 0, at: 0 }
+    Ok(Built { nodes, listed })
 }
 
 // Builds the tree of a table in lent columns: 11, 12, 41; in a refusal nothing lent is changed.
-pub fn build(
-    x: &[i32],
-    y: &[i32],
-    kit: &[u64],
-    level: &mut [u8],
-    start: &mut [u16],
-    count: &mut [u8],
-    x_lo: &mut [i32],
-    x_hi: &mut [i32],
-    y_lo: &mut [i32],
-    y_hi: &mut [i32],
-    kits: &mut [u64],
-    entries: &mut [u16],
-) -> Built
-    ensures at_value { says result.code result.at ≡ verdict (build_rules (table x.now y.now kit.now) (lengths (tree (shape 0 0 level.old start.old count.old entries.old) (sides x_lo.old x_hi.old y_lo.old y_hi.old) kits.old))) }
-    ensures kits_after { tree (shape result.nodes result.listed level.new start.new count.new entries.new) (sides x_lo.new x_hi.new y_lo.new y_hi.new) kits.new ≡ afterwards result.code (table x.now y.now kit.now) (tree (shape 0 0 level.old start.old count.old entries.old) (sides x_lo.old x_hi.old y_lo.old y_hi.old) kits.old) }
+pub fn build(t: &Table, into: Columns) -> Result<Built, Refusal>
+    ensures refused { said result ≡ verdict (build_rules t.now (lengths (lent into.entry))) }
+    ensures columns_after { counted result (left into.exit) ≡ afterwards (said result).code t.now (lent into.entry) }
 {
-    let lent = tree::Lengths {
-        level: level.len(),
-        start: start.len(),
-        count: count.len(),
-        entries: entries.len(),
-        x_lo: x_lo.len(),
-        x_hi: x_hi.len(),
-        y_lo: y_lo.len(),
-        y_hi: y_hi.len(),
-        kits: kits.len(),
+    let b = needs(t, into.lengths())?;
+    let Columns {
+        level,
+        start,
+        count,
+        x_lo,
+        x_hi,
+        y_lo,
+        y_hi,
+        kits,
+        entries,
+    } = into;
+    fill::fill_runs(t.x.len(), b.nodes, level, start, count);
+    fill::fill_entries(t, b.listed, entries);
+    let shape = Shape {
+        nodes: b.nodes,
+        listed: b.listed,
+        level,
+        start,
+        count,
+        entries,
     };
-    let v = refusal(x, y, kit, lent);
-    if v.code != 0 {
-        return Built {
-            code: v.code,
-            at: v.at,
-            nodes: 0,
-            listed: 0,
-        };
-    }
-    let n = x.len();
-    let nodes = fill::count_nodes(n);
-    let listed = fill::count_listed(n, nodes);
-    fill::fill_runs(n, nodes, level, start, count);
-    fill::fill_entries(x, y, listed, entries);
-    fill::fill_values(
-        nodes, x, y, kit, level, start, count, entries, x_lo, x_hi, y_lo, y_hi, kits,
-    );
-    Built {
-        code: 0,
-        at: 0,
-        nodes,
-        listed,
-    }
+    let values = Values {
+        x_lo,
+        x_hi,
+        y_lo,
+        y_hi,
+        kits,
+    };
+    fill::fill_values(t, &shape, values);
+    Ok(b)
 }

@@ -2,6 +2,7 @@
 #![tactic(auto)]
 
 pub mod show;
+pub mod values;
 pub mod words;
 
 // How much is read and written at a time.

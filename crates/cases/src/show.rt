@@ -1,44 +1,66 @@
 // The output: a byte, a text, a number.
+ghost use Rattle.std.specs.Prelude.{◌<◌};
+ghost use Rattle.cases.specs.declared.TheConstants.{BUFFER};
+
 use crate::BUFFER;
+use crate::values::Value;
 
-// Internal: a byte into the output's buffer, which is filled up to `to`; once it is full, it is written.
-pub fn put_byte(out: &mut [u8; BUFFER], to: usize, b: u8) -> usize {
-    if BUFFER <= to {
-        return 0;
+// The output's buffer, which is filled up to `to`; once it is full, it is written.
+#[derive(Drop)]
+pub struct Page {
+    buffer: [u8; BUFFER],
+    to: usize,
+    ghost has_room: { to < BUFFER },
+}
+
+impl Page {
+    pub fn new() -> Page {
+        Page {
+            buffer: [0; BUFFER],
+            to: 0,
+        }
     }
-    out[to] = b;
-    let next = to + 1;
-    if next == BUFFER {
-        io::write_all(1, out);
-        return 0;
+
+    pub fn put_byte(&mut self, b: u8) {
+        self.buffer[self.to] = b;
+        self.to += 1;
+        if self.to == BUFFER {
+            io::write_all(1, &self.buffer);
+            self.to = 0;
+        }
     }
-    next
-}
 
-// Internal: a text.
-pub fn put(out: &mut [u8; BUFFER], to: usize, text: &[u8]) -> usize {
-    let mut at = to;
-    for i in 0..text.len() {
-        at = put_byte(out, at, text[i]);
+    pub fn put(&mut self, text: &[u8]) {
+        for b in text {
+            self.put_byte(*b);
+        }
     }
-    at
-}
 
-// Internal: a number in decimal.
-pub fn put_number(out: &mut [u8; BUFFER], to: usize, n: u64) -> usize {
-    let mut text = [0u8; 20];
-    let k = io::decimal(n, &mut text);
-    put(out, to, &text[..k])
-}
+    pub fn put_decimal(&mut self, n: u64) {
+        let mut text = [0; 20];
+        let k = io::decimal(n, &mut text);
+        self.put(&text[..k]);
+    }
 
-// Internal: a space and a number.
-pub fn put_next(out: &mut [u8; BUFFER], to: usize, n: u64) -> usize {
-    let at = put_byte(out, to, b' ');
-    put_number(out, at, n)
-}
+    pub fn put_number<V: Value>(&mut self, number: V) {
+        number.put(self);
+    }
 
-// Internal: the first two fields of most answers.
-pub fn put_verdict(out: &mut [u8; BUFFER], to: usize, code: u8, at: usize) -> usize {
-    let k = put_number(out, to, code as u64);
-    put_next(out, k, at as u64)
+    // A space and a number.
+    pub fn put_next<V: Value>(&mut self, number: V) {
+        self.put_byte(b' ');
+        self.put_number(number);
+    }
+
+    // The first two fields of most answers.
+    pub fn put_verdict(&mut self, code: u8, at: usize) {
+        self.put_number(code);
+        self.put_next(at);
+    }
+
+    // Writes what has not been written yet.
+    pub fn flush(&mut self) {
+        io::write_all(1, &self.buffer[..self.to]);
+        self.to = 0;
+    }
 }

@@ -26,9 +26,6 @@ put d f column k v l e i h = go (ℕ_discrete i k)
     go (no n) = get_or-set_other column k i v d n ∙ h n
 
 module _ {A : Type 0} {d : A} {f : ℕ → A} {before : List A} where
-  pub fill_none : {k : ℕ} → k ≤ length before → Filling d f before before k k
-  fill_none l = record { room = l; same = refl; filled = λ i a b. absurd (omega arith); tail = refl }
-
   module _ {column : List A} {from to : ℕ} (h : Filling d f before column from to) where
     pub fill_up : (v : A) → to < length before → v ≡ f to → Filling d f before (set column to v) from (to + 1)
     fill_up v l e = record {

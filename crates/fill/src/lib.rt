@@ -1,15 +1,18 @@
 // The columns of our own tree, filled one after the other.
 #![tactic(auto)]
 
-ghost use Rattle.std.specs.Prelude.{◌≡◌, [], ◌++◌, suc, ◌≤◌, ◌<◌, length, drop};
+ghost use Rattle.std.specs.Prelude.{◌≡◌, ◌++◌, suc, ◌≤◌, ◌<◌, length, drop};
 ghost use Rattle.order.specs.Order.{Plotted};
 ghost use Rattle.order.specs.Tab.{tab};
-ghost use Rattle.table.specs.Table.{table, Even};
-ghost use Rattle.tree.specs.Lent.{shape};
+ghost use Rattle.table.specs.Table.{places, Even};
 ghost use Rattle.levels.specs.Levels;
 ghost use Rattle.levels.specs.Levels.{level_at, start_at, count_at, spot_at};
 ghost use Rattle.levels.specs.Built.{box_at, kit_at, entries_of};
 ghost use Rattle.levels.specs.Laid.{Laid};
+ghost use Rattle.fill.specs.Lent.{left};
+
+use table::Table;
+use tree::{Shape, Sides};
 
 // Internal: how many nodes there are over n places.
 pub fn count_nodes(n: usize) -> usize
@@ -30,10 +33,7 @@ pub fn count_listed(n: usize, nodes: usize) -> usize
     requires { (n ≤ 4096) × (nodes ≡ Levels.nodes n) }
     ensures { result ≡ Levels.listed n }
 {
-    if nodes == 0 {
-        return 0;
-    }
-    n + nodes - 1
+    (n + nodes).saturating_sub(1)
 }
 
 // The level and the run of node m over n places.
@@ -52,10 +52,9 @@ fn spot_of(n: usize, nodes: usize, m: usize) -> levels::Spot
         level += 1;
     }
     let rank = m - (end - size);
-    let rest = below - 16 * rank;
-    let count = if rest < 16 { rest } else { 16 };
+    let count = (below - 16 * rank).min(16);
     levels::Spot {
-        level: level,
+        level,
         start: (end + 16 * rank - 1) as u16,
         count: count as u8,
     }
@@ -69,13 +68,11 @@ pub fn fill_runs(n: usize, nodes: usize, level: &mut [u8], start: &mut [u16], co
     ensures start_after { start.new ≡ tab (start_at n) nodes ++ drop nodes start.old }
     ensures count_after { count.new ≡ tab (count_at n) nodes ++ drop nodes count.old }
 {
-    let mut m: usize = 0;
-    while m < nodes {
+    for m in 0..nodes {
         let s = spot_of(n, nodes, m);
         level[m] = s.level;
         start[m] = s.start;
         count[m] = s.count;
-        m += 1;
     }
 }
 
@@ -84,67 +81,67 @@ fn name_nodes(many: usize, entries: &mut [u16])
     requires { (many ≤ 2048) × (many ≤ length entries.old) }
     ensures { entries.new ≡ tab suc many ++ drop many entries.old }
 {
-    let mut i: usize = 0;
-    while i < many {
+    for i in 0..many {
         entries[i] = (i + 1) as u16;
-        i += 1;
     }
 }
 
 // Internal: the entry list: the nodes, then the places in order.
-pub fn fill_entries(x: &[i32], y: &[i32], listed: usize, entries: &mut [u16])
-    requires plotted { Plotted x.now y.now }
-    requires listed_value { (listed ≡ Levels.listed (length x.now)) × (listed ≤ length entries.old) }
-    ensures { entries.new ≡ entries_of (table x.now y.now []) ++ drop (Levels.listed (length x.now)) entries.old }
+pub fn fill_entries(t: &Table, listed: usize, entries: &mut [u16])
+    requires plotted { Plotted t.now.x t.now.y }
+    requires listed_value { (listed ≡ Levels.listed (places t.now)) × (listed ≤ length entries.old) }
+    ensures { entries.new ≡ entries_of t.now ++ drop (Levels.listed (places t.now)) entries.old }
 {
-    let named = listed - x.len();
+    let named = listed - t.x.len();
     name_nodes(named, entries);
-    arrange::write_order(x, y, entries, named);
+    arrange::write_order(t.x, t.y, entries, named);
+}
+
+// The lent columns of the boxes and kit words, to be filled.
+#[derive(Drop)]
+pub struct Values<'a> {
+    pub x_lo: &'a mut [i32],
+    pub x_hi: &'a mut [i32],
+    pub y_lo: &'a mut [i32],
+    pub y_hi: &'a mut [i32],
+    pub kits: &'a mut [u64],
 }
 
 // Internal: the boxes and kit words of the nodes, from the last to the first: a run names places or later nodes.
-pub fn fill_values(
-    nodes: usize,
-    x: &[i32],
-    y: &[i32],
-    kit: &[u64],
-    level: &[u8],
-    start: &[u16],
-    count: &[u8],
-    entries: &[u16],
-    x_lo: &mut [i32],
-    x_hi: &mut [i32],
-    y_lo: &mut [i32],
-    y_hi: &mut [i32],
-    kits: &mut [u64],
-)
-    requires laid { Laid (table x.now y.now kit.now) (shape 0 0 level.now start.now count.now entries.now) }
-    requires nodes_value { (nodes ≡ Levels.nodes (length x.now)) × Even (table x.now y.now kit.now) }
-    requires nodes_in_bounds { (nodes ≤ length x_lo.old) × ((nodes ≤ length x_hi.old) × ((nodes ≤ length y_lo.old) × ((nodes ≤ length y_hi.old) × (nodes ≤ length kits.old)))) }
-    ensures x_lo_after { x_lo.new ≡ tab (λ m. (box_at (table x.now y.now kit.now) m).x.lo) nodes ++ drop nodes x_lo.old }
-    ensures x_hi_after { x_hi.new ≡ tab (λ m. (box_at (table x.now y.now kit.now) m).x.hi) nodes ++ drop nodes x_hi.old }
-    ensures y_lo_after { y_lo.new ≡ tab (λ m. (box_at (table x.now y.now kit.now) m).y.lo) nodes ++ drop nodes y_lo.old }
-    ensures y_hi_after { y_hi.new ≡ tab (λ m. (box_at (table x.now y.now kit.now) m).y.hi) nodes ++ drop nodes y_hi.old }
-    ensures kits_after { kits.new ≡ tab (kit_at (table x.now y.now kit.now)) nodes ++ drop nodes kits.old }
+pub fn fill_values(t: &Table, shape: &Shape, into: Values)
+    requires laid { Laid t.now shape.now }
+    requires nodes_value { (shape.now.nodes ≡ Levels.nodes (places t.now)) × Even t.now }
+    requires sides_in_bounds { (shape.now.nodes ≤ length into.x_lo.now) × ((shape.now.nodes ≤ length into.x_hi.now) × ((shape.now.nodes ≤ length into.y_lo.now) × (shape.now.nodes ≤ length into.y_hi.now))) }
+    requires kits_in_bounds { shape.now.nodes ≤ length into.kits.now }
+    ensures x_lo_after { (left into.exit).0.x_lo ≡ tab (λ m. (box_at t.now m).x.lo) shape.now.nodes ++ drop shape.now.nodes into.entry.x_lo.now }
+    ensures x_hi_after { (left into.exit).0.x_hi ≡ tab (λ m. (box_at t.now m).x.hi) shape.now.nodes ++ drop shape.now.nodes into.entry.x_hi.now }
+    ensures y_lo_after { (left into.exit).0.y_lo ≡ tab (λ m. (box_at t.now m).y.lo) shape.now.nodes ++ drop shape.now.nodes into.entry.y_lo.now }
+    ensures y_hi_after { (left into.exit).0.y_hi ≡ tab (λ m. (box_at t.now m).y.hi) shape.now.nodes ++ drop shape.now.nodes into.entry.y_hi.now }
+    ensures kits_after { (left into.exit).1 ≡ tab (kit_at t.now) shape.now.nodes ++ drop shape.now.nodes into.entry.kits.now }
 {
-    let mut m = nodes;
-    while 0 < m {
-        m -= 1;
+    let Values {
+        x_lo,
+        x_hi,
+        y_lo,
+        y_hi,
+        kits,
+    } = into;
+    let level = shape.level;
+    for m in (0..shape.nodes).rev() {
         let leaf = level[m] == 1;
-        let from = tree::wide16(start[m]);
-        let many = tree::wide8(count[m]);
-        let b = tree::run_box(leaf, x, y, x_lo, x_hi, y_lo, y_hi, entries, from, many);
-        let w = tree::run_kit(leaf, kit, kits, entries, from, many);
-        let bx = b.x;
-        let by = b.y;
-        let west = bx.lo;
-        let east = bx.hi;
-        let south = by.lo;
-        let north = by.hi;
-        x_lo[m] = west;
-        x_hi[m] = east;
-        y_lo[m] = south;
-        y_hi[m] = north;
-        kits[m] = w;
+        let from = usize::from(shape.start[m]);
+        let many = usize::from(shape.count[m]);
+        let sides = Sides {
+            x_lo,
+            x_hi,
+            y_lo,
+            y_hi,
+        };
+        let b = tree::run_box(leaf, t, &sides, shape.entries, from, many);
+        kits[m] = tree::run_kit(leaf, t, kits, shape.entries, from, many);
+        x_lo[m] = b.x.lo;
+        x_hi[m] = b.x.hi;
+        y_lo[m] = b.y.lo;
+        y_hi[m] = b.y.hi;
     }
 }

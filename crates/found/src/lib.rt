@@ -4,11 +4,14 @@
 ghost use Rattle.std.specs.Prelude.{◌≡◌, ◌≤◌, length};
 ghost use Rattle.kit.specs.Kit.{kinds};
 ghost use Rattle.table.specs.Table.{Table};
-ghost use Rattle.tree.specs.Tree.{Shape, Sides};
 ghost use Rattle.closest.specs.Walk.{begins};
-ghost use Rattle.tree.specs.Lent.{tree};
-ghost use Rattle.verdict.specs.Rules.{verdict};
+ghost use Rattle.verdict.specs.Rules.{said, verdict};
+ghost use Rattle.walk.specs.State.{walked};
 ghost use Rattle.found.specs.Search.{refused, outcome, query_rules};
+
+use members::Group;
+use tree::Tree;
+use verdict::{Reason, Refusal};
 
 // What a search gives.
 #[derive(Drop)]
@@ -36,35 +39,44 @@ pub fn refuse(code: u8, at: usize) -> Found
 }
 
 // Internal: what is refused of a want.
-pub fn want_fault(want: u64) -> verdict::Verdict
-    ensures { result ≡ verdict (query_rules want) }
+pub fn want_fault(want: u64) -> Result<(), Refusal>
+    ensures { said result ≡ verdict (query_rules want) }
 {
     let many = kit::count_kinds(want);
     if many < 1 {
-        return verdict::Verdict { code: 1, at: 0 };
+        return Err(Refusal {
+            reason: Reason::NothingWanted,
+            at: 0,
+        });
     }
     if 8 < many {
-        return verdict::Verdict { code: 2, at: 0 };
+        return Err(Refusal {
+            reason: Reason::TooManyKinds,
+            at: 0,
+        });
     }
-    verdict::Verdict { code: 0, at: 0 }
+    Ok(())
 }
 
 // Internal: does the root hold every wanted kind?
-pub fn root_holds(kits: &[u64], nodes: usize, want: u64) -> bool
-    requires { nodes ≤ length kits.now }
-    ensures { (t : Table) (s : Shape) (b : Sides) → s.nodes ≡ nodes → result ≡ begins t (tree s b kits.now) (kinds want) }
+pub fn root_holds(tree: &Tree, want: u64) -> bool
+    requires { tree.now.shape.nodes ≤ length tree.now.kits }
+    ensures { (t : Table) → result ≡ begins t tree.now (kinds want) }
 {
-    if nodes == 0 {
-        return false;
-    }
-    kit::holds_all(kits[0], want)
+    let shape = &tree.shape;
+    let kits = tree.kits;
+    shape.nodes > 0 && kit::holds_all(kits[0], want)
 }
 
 // Internal: the answer that a walk ends with.
 pub fn outcome_of(s: walk::State) -> Found
-    ensures { result ≡ outcome s }
+    ensures { result ≡ outcome (walked s) }
 {
-    let best = s.best;
+    let known = s.best.is_some();
+    let best = s.best.unwrap_or(Group {
+        squared: 0,
+        places: [0u16; 8],
+    });
     let places = best.places;
     if s.spent {
         return Found {
@@ -73,11 +85,11 @@ pub fn outcome_of(s: walk::State) -> Found
             places,
             squared: best.squared,
             steps: s.steps,
-            known: best.known,
+            known,
         };
     }
     if 8000000000000 < best.squared {
-        return refuse(33, 0);
+        return refuse(Reason::TooWide.code(), 0);
     }
     Found {
         code: 0,
@@ -85,6 +97,6 @@ pub fn outcome_of(s: walk::State) -> Found
         places,
         squared: best.squared,
         steps: s.steps,
-        known: best.known,
+        known,
     }
 }

@@ -123,9 +123,6 @@ pub record Beside (i : ℕ) (numbers : List ℕ) (b : Sides) (numbers' : List �
   pub number : (p : ℕ) → set numbers i p ≡ set numbers' i p
   pub box : (d : Box) → put b i d ≡ put b' i d
 
-pub beside_self : (i : ℕ) (numbers : List ℕ) (b : Sides) → Beside i numbers b numbers b
-beside_self i numbers b = record { number = λ p. refl; box = λ d. refl }
-
 pub beside_put : (i : ℕ) {numbers : List ℕ} {b : Sides} {numbers' : List ℕ} {b' : Sides} → Beside i numbers b numbers' b' → (p : ℕ) (d : Box) → Beside i (set numbers i p) (put b i d) numbers' b'
 beside_put i {numbers} {b} {numbers'} {b'} s p d = record {
   number = λ q. set-set numbers i p q ∙ s.number q;

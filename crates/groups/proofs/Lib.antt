@@ -5,6 +5,7 @@ pub mod TurnLaws
 pub mod EntryLaws
 pub mod Opens
 pub mod RunLaws
+pub mod RoundLaws
 pub mod MemberLaws
 pub mod ColumnLaws
 pub mod OpenLaws

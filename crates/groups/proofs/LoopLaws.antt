@@ -22,7 +22,7 @@ use Rattle.closest.proofs.CandidateLaws.{group_is}
 use Rattle.groups.specs.Members.{Member, Placed, boxes_of, thing_of, things_of}
 use Rattle.groups.specs.Opening.{Led}
 use Rattle.groups.specs.Leads.{Near, leads}
-use Rattle.members.specs.declared.Best.{Best}
+use Rattle.members.specs.Best.{Best}
 use Rattle.groups.specs.declared.Opening.{Opening}
 use Rattle.groups.proofs.Opens.{Last}
 use Rattle.groups.proofs.MemberLaws.{whole_spread}
@@ -54,11 +54,6 @@ pub record Going (t : Table) (tree : Tree) (kinds : List ℕ) (allowance m : ℕ
       ≡ leads t tree kinds allowance (things_of (take m cand)) o.top (entries_of tree.shape (node o.node)) from
   pub near : Near best (spread (boxes_of (take m cand)))
   pub eight : length best.places ≡ 8
-
--- before the first entry
-pub at_first : {t : Table} {tree : Tree} {kinds : List ℕ} {allowance m : ℕ} {cand : List Member} {o : Opening} {steps : ℕ} {best : Best} →
-    Near best (spread (boxes_of (take m cand))) → length best.places ≡ 8 → Going t tree kinds allowance m cand o (stand steps false best) steps best 0
-at_first n l = record { some = omega arith; led = refl; near = n; eight = l }
 
 module _ {t : Table} {tree : Tree} {kinds : List ℕ} {m : ℕ} {cand : List Member} {o : Opening} (r : Ready t tree kinds m cand o) (allowance : ℕ) (from : Stand Best) where
   abbrev c : List Thing

@@ -1,14 +1,14 @@
 -- The run of an opened candidate: what its entries are and where they are read.
 -- Assumes nothing.
-use mathlib.Core.Path.{◌≡◌, sym, ap, ap₂, subst, ◌∙◌}
-use mathlib.Core.Bool.{Bool, true}
+use mathlib.Core.Path.{◌≡◌, sym, ap₂, subst, ◌∙◌}
+use mathlib.Core.Bool.{Bool}
 use mathlib.Core.List.{List}
 use Prim.Native.Nat.{ℕ, ◌+◌, ◌<◌}
 use native.Mathlib.Omega.{arith}
 use lib.ListN.{length, take, get_or}
 use lib.Seq.{get_or-take}
 use Rattle.table.specs.Table.{Table}
-use Rattle.tree.specs.Tree.{Tree, place, thing, count_of}
+use Rattle.tree.specs.Tree.{Tree, thing, count_of}
 use Rattle.closest.specs.Candidate.{entry}
 use Rattle.groups.specs.Members.{Member, Real, Few, Passes}
 use Rattle.groups.specs.declared.Opening.{Opening}
@@ -31,10 +31,6 @@ module _ {t : Table} {tree : Tree} (p : Passes t tree) {kinds : List ℕ} {m : �
 
   pub is_entry : thing o.leaf (get_or tree.shape.entries (o.first + k) 0) ≡ entry tree.shape o.node k
   is_entry = ap₂ (λ (u : Bool) (f : ℕ). thing u (get_or tree.shape.entries (f + k) 0)) opens.leaf opens.first
-
-  -- the entries of a leaf are places
-  pub is_place : o.leaf ≡ true → place (get_or tree.shape.entries (o.first + k) 0) ≡ entry tree.shape o.node k
-  is_place u = ap (λ (v : Bool). thing v (get_or tree.shape.entries (o.first + k) 0)) (sym u) ∙ is_entry
 
   pub real : Real t tree (entry tree.shape o.node k)
   real = entry_real p o.node k opens.there in_run

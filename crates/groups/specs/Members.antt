@@ -1,6 +1,6 @@
 -- A candidate as the code has it: columns of the levels, the numbers and the sides of its members.
 -- Assumes nothing.
-use Rattle.std.specs.Prelude.{◌≡◌, List, map, ℕ, ◌≤◌, ◌<◌, pos, eqb, length, get_or}
+use Rattle.std.specs.Prelude.{◌≡◌, List, map, ℕ, ◌≤◌, ◌<◌, pos, eqb, length, take, get_or}
 use Rattle.plane.specs.Plane.{point}
 use Rattle.plane.specs.declared.Box.{Box}
 use Rattle.table.specs.Table.{Table, places, Valid}
@@ -9,6 +9,10 @@ use Rattle.tree.specs.Rules.{tree_rules}
 use Rattle.order.specs.Tab.{tab}
 use Rattle.tree.specs.Tree.{Sides, Tree, Thing, place, thing, level, box_at, box_of}
 use Rattle.closest.specs.Candidate.{number, Good, member}
+use Rattle.members.specs.declared.Members.{Members}
+use Rattle.members.specs.declared.Want.{Want}
+use Rattle.members.specs.Columns.{sides_of}
+use Rattle.members.specs.Levels.{levels_at}
 
 -- a member: its level, which is 0 for a place, its number and its box
 pub record Member : Type 0 where
@@ -38,6 +42,13 @@ boxes_of c = map (λ m. m.at) c
 -- the members that eight levels, numbers and sides of each direction make
 abbrev pub members_at : List ℕ → List ℕ → Sides → List Member
 members_at levels numbers b = tab (λ i. record { level = get_or levels i 0; number = get_or numbers i 0; at = box_at b i }) 8
+
+-- the kinds of a want, and a candidate in its columns, whose levels go down in turn
+abbrev pub wanted : Want → List ℕ
+wanted w = take w.m w.kinds
+
+abbrev pub candidate : ℕ → ℕ → ℕ → Members → List Member
+candidate m top high c = members_at (levels_at m top high) c.numbers (sides_of c)
 
 -- the thing that a member stands for
 abbrev pub thing_of : Member → Thing

@@ -1,14 +1,15 @@
 // A candidate that is opened, and the groups that come of it.
 #![tactic(auto)]
 
-ghost use Rattle.std.specs.Prelude.{◌≡◌, false, ◌+◌, ◌<◌, eqb, length, take, get_or};
-ghost use Rattle.table.specs.Table.{table};
-ghost use Rattle.tree.specs.Lent.{shape, sides, tree};
+ghost use Rattle.std.specs.Prelude.{◌≡◌, false, ◌+◌, ◌<◌, eqb, length, get_or};
 ghost use Rattle.walks.specs.Allowance.{stand};
-ghost use Rattle.members.specs.Levels.{levels_at};
-ghost use Rattle.members.specs.Best.{best_at};
-ghost use Rattle.groups.specs.Members.{members_at, Few, Passes};
+ghost use Rattle.members.specs.Best.{best_in};
+ghost use Rattle.groups.specs.Members.{wanted, candidate, Few, Passes};
 ghost use Rattle.groups.specs.Opening.{Opened, Led};
+
+use members::{Members, Progress, Want};
+use table::Table;
+use tree::{Shape, Sides, Tree};
 
 // What is kept of an opened candidate.
 #[derive(Drop)]
@@ -22,90 +23,55 @@ pub struct Opening {
 }
 
 // Internal: opens a candidate at a member, of which it keeps what the run needs.
-pub fn open_at(
-    start: &[u16],
-    count: &[u8],
-    kinds: [u8; 8],
-    top: usize,
-    level: u8,
-    number: u16,
-) -> Opening
-    requires { (number < length start.now) × (number < length count.now) }
-    ensures { result ≡ record { top = top; node = number; kind = get_or kinds top 0; leaf = eqb level 1; first = get_or start.now number 0; many = get_or count.now number 0 } }
+pub fn open_at(shape: &Shape, w: &Want, top: usize, level: u8, number: u16) -> Opening
+    requires { (number < length shape.now.start) × (number < length shape.now.count) }
+    ensures { result ≡ record { top = top; node = number; kind = get_or w.now.kinds top 0; leaf = eqb level 1; first = get_or shape.now.start number 0; many = get_or shape.now.count number 0 } }
 {
-    let n = tree::wide16(number);
+    let start = shape.start;
+    let n = usize::from(number);
     Opening {
         top,
         node: n,
-        kind: members::kind_at(kinds, top),
+        kind: w.kind_at(top),
         leaf: level == 1,
-        first: tree::wide16(start[n]),
-        many: tree::wide8(count[n]),
+        first: usize::from(start[n]),
+        many: usize::from(shape.count[n]),
     }
 }
 
 // Internal: opens a candidate at its last member, a leaf, where the others are places, and takes the groups that come of it; says whether the allowance was spent.
 pub fn take_groups(
-    level: &[u8],
-    start: &[u16],
-    count: &[u8],
-    entries: &[u16],
-    x: &[i32],
-    y: &[i32],
-    kit: &[u64],
-    x_lo: &[i32],
-    x_hi: &[i32],
-    y_lo: &[i32],
-    y_hi: &[i32],
-    kits: &[u64],
-    nodes: usize,
-    listed: usize,
-    kinds: [u8; 8],
-    m: usize,
-    allowance: u32,
+    t: &Table,
+    tree: &Tree,
+    w: &Want,
     top: usize,
-    numbers: &[u16; 8],
-    west: &[i32; 8],
-    east: &[i32; 8],
-    south: &[i32; 8],
-    north: &[i32; 8],
-    steps: &mut u32,
-    known: &mut bool,
-    squared: &mut u64,
-    places: &mut [u16; 8],
+    c: &Members,
+    p: &mut Progress,
 ) -> bool
-    requires passes { Passes (table x.now y.now kit.now) (tree (shape nodes listed level.now start.now count.now entries.now) (sides x_lo.now x_hi.now y_lo.now y_hi.now) kits.now) }
-    requires few { Few m kinds × (top + 1 ≡ m) }
-    requires opened { Opened (table x.now y.now kit.now) (tree (shape nodes listed level.now start.now count.now entries.now) (sides x_lo.now x_hi.now y_lo.now y_hi.now) kits.now) (take m kinds) m (members_at (levels_at m top 1) numbers.now (sides west.now east.now south.now north.now)) top (best_at known.old squared.old places.old) }
-    requires numbers_len { length numbers.now ≡ 8 }
-    ensures { Led (table x.now y.now kit.now) (tree (shape nodes listed level.now start.now count.now entries.now) (sides x_lo.now x_hi.now y_lo.now y_hi.now) kits.now) (take m kinds) allowance m (members_at (levels_at m top 1) numbers.now (sides west.now east.now south.now north.now)) top (stand steps.old false (best_at known.old squared.old places.old)) (stand steps.new result (best_at known.new squared.new places.new)) }
+    requires passes { Passes t.now tree.now }
+    requires few { Few w.now.m w.now.kinds × (top + 1 ≡ w.now.m) }
+    requires opened { Opened t.now tree.now (wanted w.now) w.now.m (candidate w.now.m top 1 c.now) top (best_in p.old.best) }
+    ensures { Led t.now tree.now (wanted w.now) w.now.allowance w.now.m (candidate w.now.m top 1 c.now) top (stand p.old.steps false (best_in p.old.best)) (stand p.new.steps result (best_in p.new.best)) }
 {
-    let o = open_at(start, count, kinds, top, 1, numbers[top]);
-    let mut rest: u64 = 18446744073709551615;
-    let mut k: usize = 0;
-    while k < o.many {
-        let p = entries[o.first + k];
-        let e = tree::wide16(p);
-        k += 1;
+    let shape = &tree.shape;
+    let o = open_at(shape, w, top, 1, c.numbers[top]);
+    let entries = shape.entries;
+    let points = Sides::of_points(t);
+    let kit = t.kit;
+    let mut rest = None;
+    for k in 0..o.many {
+        let number = entries[o.first + k];
+        let e = usize::from(number);
         if kit::holds(kit[e], o.kind) {
-            if !members::take_step(allowance, steps) {
+            if !p.take_step(w.allowance) {
                 return true;
             }
-            let b = tree::box_at(x, x, y, y, e);
-            let limit = members::limit_of(*known, *squared);
-            let row = members::row_of(m, west, east, south, north, top, b, limit);
+            let limit = p.limit();
+            let row = c.row_of(w.m, top, points.box_at(e), limit);
             if row <= limit {
-                rest = members::rest_of(m, west, east, south, north, top, rest);
-                members::offer(
-                    m,
-                    numbers,
-                    top,
-                    p,
-                    members::larger(rest, row),
-                    known,
-                    squared,
-                    places,
-                );
+                let others = c.rest_of(w.m, top, rest);
+                rest = Some(others);
+                p.offer(others.max(row), c.group_with(w.m, top, number));
             }
         }
     }

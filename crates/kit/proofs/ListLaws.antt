@@ -4,7 +4,6 @@ use mathlib.Core.Path.{◌≡◌, refl, sym, ap, ap₂, subst, ◌∙◌}
 use mathlib.Core.Bool.{Bool}
 use mathlib.Core.List.{List, [], ◌∷◌, ◌++◌, append_assoc, append-nil}
 use Prim.Native.Nat.{ℕ, suc, ◌+◌, ◌-◌, ◌≤◌, ◌<◌}
-use native.Mathlib.Decide.{dec_lt}
 use native.Mathlib.Numerals.{add-one}
 use native.Mathlib.Omega.{arith}
 use lib.ListN.{length, replicate, set, length-append}
@@ -48,14 +47,6 @@ module _ {w : ℕ} where
     all = append_assoc f.done (k ∷ []) to-come ∙ f.all;
   }
 
-  -- all are listed, or some are to come
-  pub left : {list : List ℕ} {n : ℕ} {to-come : List ℕ} → Filled w list n to-come → length (kinds w) ≡ n + length to-come
-  left {to-come = l} f = omega (arith, f.long, length-append f.done l, ap length f.all)
-
-  pub none_left : {list : List ℕ} {n : ℕ} (to-come : List ℕ) → Filled w list n to-come → length (kinds w) ≤ n → to-come ≡ []
-  none_left [] f h = refl
-  none_left (k ∷ l) f h = absurd (omega (arith, left f))
-
   pub full : {list : List ℕ} {n : ℕ} → Filled w list n [] → as_listed n list ≡ listed (kinds w)
   full f = let e = sym (append-nil f.done) ∙ f.all in ap₂ as_listed (sym f.long ∙ ap length e) (f.has ∙ ap padded e)
 
@@ -80,13 +71,6 @@ from_next w k h =
 pub from_last : (w k : ℕ) → 64 ≤ k → kinds_from w k (64 - k) ≡ []
 unfolding kinds_from
 from_last w k h = let e : 64 - k ≡ 0 = omega arith in ap (kinds_from w k) e
-
-pub below_64 : (w k : ℕ) {list : List ℕ} {n : ℕ} → Filled w list n (kinds_from w k (64 - k)) → n < length (kinds w) → k < 64
-below_64 w k f h = go (dec_lt k 64)
-  where
-    go : Dec (k < 64) → k < 64
-    go (yes l) = l
-    go (no l) = absurd (omega (arith, left f, ap length (from_last w k (omega arith))))
 
 pub keep_is : (w k : ℕ) (l : List ℕ) {b : Bool} → held w k ≡ b → keep (held w k) k l ≡ keep b k l
 keep_is w k l e = ap (λ (b : Bool). keep b k l) e

@@ -30,7 +30,7 @@ pub fn holds_all(kit: u64, want: u64) -> bool
 pub fn count_kinds(want: u64) -> u32
     ensures { result ≡ length (kinds want) }
 {
-    u64::count_ones(want)
+    want.count_ones()
 }
 
 // Internal: the kinds of a want that names at most eight.
@@ -41,13 +41,14 @@ pub fn list_kinds(want: u64) -> Listed
     let many = count_kinds(want) as usize;
     let mut kinds = [0u8; 8];
     let mut count: usize = 0;
-    let mut k: usize = 0;
-    while count < many {
-        if (want >> k) % 2 == 1 {
-            kinds[count] = k as u8;
+    for k in 0..64u8 {
+        if count == many {
+            break;
+        }
+        if holds(want, usize::from(k)) {
+            kinds[count] = k;
             count += 1;
         }
-        k += 1;
     }
     Listed { count, kinds }
 }

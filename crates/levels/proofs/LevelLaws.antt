@@ -199,7 +199,7 @@ module _ (n : ℕ) (few : n ≤ 4096) where
   unfolding size
   climb_first m h = record { lower = 0; level_is = refl; high = height_low; below_is = refl; end_is = refl; size_is = refl; before = h }
 
-  module _ (m level below end s : ℕ) (k : Climbing n m level below end s) where
+  module _ {m level below end s : ℕ} (k : Climbing n m level below end s) where
     pub climb_room : s ≤ end
     climb_room = omega (arith, k.end_is, k.size_is, first_next k.lower k.high)
 

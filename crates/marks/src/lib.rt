@@ -1,46 +1,42 @@
 // The shape of a lent tree held against rule 24: nothing is named twice.
 #![tactic(auto)]
 
-ghost use Rattle.std.specs.Prelude.{◌≡◌, [], ◌∷◌, ◌+◌, ◌<◌, replicate};
-ghost use Rattle.verdict.specs.Rules.{Holds, AllHold, verdict};
+ghost use Rattle.std.specs.Prelude.{◌≡◌, [], ◌∷◌, ◌<◌, false, replicate};
+ghost use Rattle.verdict.specs.Rules.{Holds, AllHold, said, verdict};
 ghost use Rattle.tree.specs.Rules.{rules22, rule23, rule24};
 ghost use Rattle.tree.specs.Lent;
-ghost use Rattle.tree.specs.Lent.{shape, Decides, Columns};
+ghost use Rattle.tree.specs.Lent.{Decides, Columns};
+
+use tree::Shape;
+use verdict::{Reason, Refusal};
 
 // Rule 24: nothing is named twice. The index i stands in the run of n, and j in the run of m.
-fn repeats(
-    nodes: usize,
-    listed: usize,
-    level: &[u8],
-    start: &[u16],
-    count: &[u8],
-    entries: &[u16],
-) -> verdict::Verdict
-    requires columns { Columns (shape nodes listed level.now start.now count.now entries.now) }
-    requires all_hold { AllHold (rules22 (shape nodes listed level.now start.now count.now entries.now)) }
-    ensures { result ≡ verdict (rule24 (shape nodes listed level.now start.now count.now entries.now) ∷ []) }
+fn repeats(s: &Shape) -> Result<(), Refusal>
+    requires columns { Columns s.now }
+    requires all_hold { AllHold (rules22 s.now) }
+    ensures { said result ≡ verdict (rule24 s.now ∷ []) }
 {
-    let mut i: usize = 0;
+    let mut repeated = None;
     let mut n: usize = 0;
-    'search: while i < listed {
-        let e = entries[i];
-        let leaf = level[n] == 1;
-        let mut j: usize = 0;
+    'search: for i in 0..s.listed {
+        let e = s.entries[i];
+        let leaf = s.level[n] == 1;
         let mut m: usize = 0;
-        while j < i {
-            if entries[j] == e && (level[m] == 1) == leaf {
+        for j in 0..i {
+            if s.entries[j] == e && (s.level[m] == 1) == leaf {
+                repeated = Some(i);
                 break 'search;
             }
-            j += 1;
-            m = shapes::moved(start, count, m, j);
+            m = shapes::moved(s, m, j + 1);
         }
-        i += 1;
-        n = shapes::moved(start, count, n, i);
+        n = shapes::moved(s, n, i + 1);
     }
-    if i < listed {
-        verdict::Verdict { code: 24, at: i }
-    } else {
-        verdict::Verdict { code: 0, at: 0 }
+    match repeated {
+        Some(at) => Err(Refusal {
+            reason: Reason::NamedTwice,
+            at,
+        }),
+        None => Ok(()),
     }
 }
 
@@ -53,70 +49,42 @@ fn mark_of(leaf: bool, e: usize) -> usize
 }
 
 // Is nothing named twice? One pass, with a mark for each thing.
-fn marked_once(
-    nodes: usize,
-    listed: usize,
-    level: &[u8],
-    start: &[u16],
-    count: &[u8],
-    entries: &[u16],
-    seen: &mut [u8],
-) -> bool
-    requires columns { Columns (shape nodes listed level.now start.now count.now entries.now) }
-    requires all_hold { AllHold (rules22 (shape nodes listed level.now start.now count.now entries.now)) }
-    requires holds { Holds (rule23 4096 (shape nodes listed level.now start.now count.now entries.now)) }
-    requires seen_value { seen.old ≡ replicate 6144 0 }
-    ensures { Decides result (Holds (rule24 (shape nodes listed level.now start.now count.now entries.now))) }
+fn marked_once(s: &Shape, seen: &mut [bool]) -> bool
+    requires columns { Columns s.now }
+    requires all_hold { AllHold (rules22 s.now) }
+    requires holds { Holds (rule23 4096 s.now) }
+    requires seen_value { seen.old ≡ replicate 6144 false }
+    ensures { Decides result (Holds (rule24 s.now)) }
 {
-    let mut i: usize = 0;
     let mut n: usize = 0;
-    while i < listed {
-        let e = tree::wide16(entries[i]);
-        let k = mark_of(level[n] == 1, e);
-        if seen[k] == 1 {
+    for i in 0..s.listed {
+        let k = mark_of(s.level[n] == 1, usize::from(s.entries[i]));
+        if seen[k] {
             return false;
         }
-        seen[k] = 1;
-        i += 1;
-        n = shapes::moved(start, count, n, i);
+        seen[k] = true;
+        n = shapes::moved(s, n, i + 1);
     }
     true
 }
 
 // Rule 24 in linear work: is nothing named twice?
-fn named_once(
-    nodes: usize,
-    listed: usize,
-    level: &[u8],
-    start: &[u16],
-    count: &[u8],
-    entries: &[u16],
-) -> bool
-    requires columns { Columns (shape nodes listed level.now start.now count.now entries.now) }
-    requires all_hold { AllHold (rules22 (shape nodes listed level.now start.now count.now entries.now)) }
-    requires holds { Holds (rule23 4096 (shape nodes listed level.now start.now count.now entries.now)) }
-    ensures { Decides result (Holds (rule24 (shape nodes listed level.now start.now count.now entries.now))) }
+fn named_once(s: &Shape) -> bool
+    requires columns { Columns s.now }
+    requires all_hold { AllHold (rules22 s.now) }
+    requires holds { Holds (rule23 4096 s.now) }
+    ensures { Decides result (Holds (rule24 s.now)) }
 {
-    let mut seen = [0u8; 6144];
-    marked_once(nodes, listed, level, start, count, entries, &mut seen)
+    let mut seen = [false; 6144];
+    marked_once(s, &mut seen)
 }
 
 // Internal: rule 24: the marks say whether anything is named twice, and the nested loops where.
-pub fn distinct(
-    nodes: usize,
-    listed: usize,
-    level: &[u8],
-    start: &[u16],
-    count: &[u8],
-    entries: &[u16],
-) -> verdict::Verdict
-    requires columns { Columns (shape nodes listed level.now start.now count.now entries.now) }
-    requires all_hold { AllHold (rules22 (shape nodes listed level.now start.now count.now entries.now)) }
-    requires holds { Holds (rule23 4096 (shape nodes listed level.now start.now count.now entries.now)) }
-    ensures { result ≡ verdict (rule24 (shape nodes listed level.now start.now count.now entries.now) ∷ []) }
+pub fn distinct(s: &Shape) -> Result<(), Refusal>
+    requires columns { Columns s.now }
+    requires all_hold { AllHold (rules22 s.now) }
+    requires holds { Holds (rule23 4096 s.now) }
+    ensures { said result ≡ verdict (rule24 s.now ∷ []) }
 {
-    if named_once(nodes, listed, level, start, count, entries) {
-        return verdict::Verdict { code: 0, at: 0 };
-    }
-    repeats(nodes, listed, level, start, count, entries)
+    if named_once(s) { Ok(()) } else { repeats(s) }
 }

@@ -84,19 +84,30 @@ module _ (m : ℕ) (b : Sides) (most : m ≤ 8) where
   others_at : (i k : ℕ) → k + 1 < m → get_or (without i (take m (boxes_at b))) k nowhere ≡ box_at b (skip i k)
   others_at i k h = getD_without (take m (boxes_at b)) i k nowhere ∙ boxes_at_lem (skip i k) (omega (arith, skip_le i k))
 
-  pub others_ranged : (i k : ℕ) → AllRanged (take m (boxes_at b)) → k + 1 < m → Ranged (box_at b (skip i k))
+  others_ranged : (i k : ℕ) → AllRanged (take m (boxes_at b)) → k + 1 < m → Ranged (box_at b (skip i k))
   others_ranged i k r h =
       let e : skip i k < m = omega (arith, skip_le i k) in
       subst Ranged (boxes_at_lem (skip i k) e) (ranged_at (take m (boxes_at b)) (skip i k) nowhere r (omega (arith, boxes_length)))
 
   -- from the k-th on
-  pub others_next : (i k : ℕ) → i < m → k + 1 < m → drop k (without i (take m (boxes_at b))) ≡ box_at b (skip i k) ∷ drop (k + 1) (without i (take m (boxes_at b)))
+  others_next : (i k : ℕ) → i < m → k + 1 < m → drop k (without i (take m (boxes_at b))) ≡ box_at b (skip i k) ∷ drop (k + 1) (without i (take m (boxes_at b)))
   others_next i k h t =
       let l = without i (take m (boxes_at b)) in
       drop-cons l k nowhere (omega (arith, others_length i h)) ∙ ap (λ (c : Box). c ∷ drop (suc k) l) (others_at i k t) ∙ ap (λ (n : ℕ). box_at b (skip i k) ∷ drop n l) (sym (add-one k))
 
   pub others_done : (i k : ℕ) → i < m → m ≤ k + 1 → drop k (without i (take m (boxes_at b))) ≡ []
   others_done i k h t = let e : length (without i (take m (boxes_at b))) ≤ k = omega (arith, others_length i h) in drop_of_length-le (without i (take m (boxes_at b))) e
+
+-- a turn of a loop over them, which reads the k-th as c
+module _ (m : ℕ) (b : Sides) (most : m ≤ 8) (i k : ℕ) (t : k < m - 1) {j : ℕ} {c : Box} (skips : j ≡ skip i k) (reads : c ≡ box_at b j) where
+  is : c ≡ box_at b (skip i k)
+  is = reads ∙ ap (box_at b) skips
+
+  pub turn : i < m → drop k (without i (take m (boxes_at b))) ≡ c ∷ drop (k + 1) (without i (take m (boxes_at b)))
+  turn h = others_next m b most i k h (omega arith) ∙ ap (λ (d : Box). d ∷ drop (k + 1) (without i (take m (boxes_at b)))) (sym is)
+
+  pub turn_ranged : AllRanged (take m (boxes_at b)) → Ranged c
+  turn_ranged r = subst Ranged (sym is) (others_ranged m b most i k r (omega arith))
 
 -- ---- the farthest and the spread, one box on, and at the end
 

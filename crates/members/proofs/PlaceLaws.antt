@@ -1,40 +1,50 @@
 -- Groups in eight places: read and stored one by one, and compared in dictionary order.
 -- Assumes nothing.
-use mathlib.Core.Path.{◌≡◌, ap, ◌∙◌}
+use mathlib.Core.Path.{◌≡◌, refl, sym, ap, ◌∙◌}
 use mathlib.Core.Logic.{◌≢◌}
-use mathlib.Core.Bool.{true, false}
+use mathlib.Core.Bool.{Bool, true, false, cond}
 use mathlib.Core.List.{List}
 use Prim.Native.Nat.{ℕ, ◌+◌, ◌-◌, ◌≤◌, ◌<◌}
-use native.Mathlib.Numerals.{add-one}
+use native.Mathlib.Decide.{dec_lt, ℕ_discrete}
 use native.Mathlib.Omega.{arith}
-use lib.ListN.{length, get_or, take, drop, set, replicate, length-append, length-set, length-replicate, get_or-replicate, drop_of_length-le, get_or-append}
-use lib.Seq.{length-take-le, drop-cons, take-suc, take-suc-set, get_or-take, get_or-set_same, get_or-set_other, get_or-append-add}
+use lib.ListN.{length, get_or, take, set, replicate, length-append, length-set, length-replicate, get_or-replicate, get_or-append}
+use lib.Seq.{ext_get_or, length-take-le, get_or-take, get_or-set_same, get_or-set_other, get_or-append-add}
 use borrow.Author.Tests.{lt-ltb, le-ltb}
+use Rattle.std.specs.Prelude.{Some, None}
+use Rattle.std.specs.Cmp.Lexicographic.{slice_partial_cmp}
+use Rattle.std.specs.Ordering.{nat_cmp, is_lt, is_some_and}
+use Rattle.std.proofs.lemmas.Bool.Decides.{nat_tests}
+use Rattle.std.proofs.lemmas.Cmp.{same_from_slice_cmp_tested}
 use Rattle.walks.specs.Order.{before}
+use Rattle.members.specs.Best.{best_at, best_in, improved}
 use Rattle.kit.specs.Kit.{padded}
 
--- of two lists of the same length, from k on
-module _ (a b : List ℕ) (same : length a ≡ length b) (k : ℕ) where
-  pub before_less : k < length a → get_or a k 0 < get_or b k 0 → before (drop k a) (drop k b) ≡ true
-  unfolding before
-  before_less h l = let h' : k < length b = omega arith in rw (drop-cons a k 0 h, drop-cons b k 0 h', before, lt-ltb (get_or a k 0) (get_or b k 0) l)
+-- dictionary order is that of the library's lists
+pub before_is : (xs ys : List ℕ) (r : Bool) → r ≡ is_some_and is_lt (slice_partial_cmp (λ x y. Some (nat_cmp x y)) xs ys) → r ≡ before xs ys
+unfolding before
+before_is = same_from_slice_cmp_tested nat_cmp is_lt before refl (λ _ _. refl) (λ _ _. refl) (λ x y xs ys o h. grind (arith, nat_tests))
 
-  pub before_more : k < length a → get_or b k 0 < get_or a k 0 → before (drop k a) (drop k b) ≡ false
-  unfolding before
-  before_more h l =
-      let h' : k < length b = omega arith in
-      let n : get_or b k 0 ≤ get_or a k 0 = omega arith in
-      rw (drop-cons a k 0 h, drop-cons b k 0 h', before, le-ltb (get_or a k 0) (get_or b k 0) n, lt-ltb (get_or b k 0) (get_or a k 0) l)
+-- what a group makes of the best that is known
+module _ (g l : List ℕ) (d e : ℕ) where
+  pub less : d < e → improved g d (best_at true e l) ≡ best_at true d g
+  unfolding improved
+  less h = rw (improved, lt-ltb d e h)
 
-  pub before_same : k < length a → get_or b k 0 ≤ get_or a k 0 → get_or a k 0 ≤ get_or b k 0 → before (drop k a) (drop k b) ≡ before (drop (k + 1) a) (drop (k + 1) b)
-  unfolding before
-  before_same h l m =
-      let h' : k < length b = omega arith in
-      rw (add-one, drop-cons a k 0 h, drop-cons b k 0 h', before, le-ltb (get_or a k 0) (get_or b k 0) l, le-ltb (get_or b k 0) (get_or a k 0) m)
+  pub more : e < d → improved g d (best_at true e l) ≡ best_at true e l
+  unfolding improved
+  more h = let h' : e ≤ d = omega arith in rw (improved, le-ltb d e h', lt-ltb e d h)
 
-  pub before_done : length a ≤ k → before (drop k a) (drop k b) ≡ false
-  unfolding before
-  before_done h = let h' : length b ≤ k = omega arith in rw (drop_of_length-le a h, drop_of_length-le b h')
+  pub equal : d ≡ e → improved g d (best_at true e l) ≡ cond (before g l) (best_at true d g) (best_at true e l)
+  unfolding improved
+  equal h = let i : e ≤ d = omega arith in let j : d ≤ e = omega arith in rw (improved, le-ltb d e i, le-ltb e d j) (either (before g l))
+    where
+      either : (r : Bool) → elim r [ true ↦ best_at true d g | false ↦ best_at true e l ] ≡ cond r (best_at true d g) (best_at true e l)
+      either true = refl
+      either false = refl
+
+pub first : (g : List ℕ) (d : ℕ) → improved g d (best_in None) ≡ best_at true d g
+unfolding improved
+first g d = refl
 
 -- ---- a list that 0 fills up
 
@@ -73,7 +83,12 @@ module _ (m : ℕ) (numbers : List ℕ) (i p : ℕ) (eight : length numbers ≡ 
   pub group_rest : (j : ℕ) → m ≤ j → j < 8 → get_or (padded (take m (set numbers i p))) j 0 ≡ 0
   group_rest j h k = padded_out (take m (set numbers i p)) j (omega (arith, many)) k
 
--- ---- one more of a list is stored
-
-pub stored : {A : Type 0} (l r : List A) (k : ℕ) (v d : A) → k < length l → k < length r → take k r ≡ take k l → v ≡ get_or l k d → take (k + 1) (set r k v) ≡ take (k + 1) l
-stored l r k v d h j e q = rw (add-one, take-suc-set r k v j, take-suc l k d h, e, q)
+-- stored one by one
+pub made : (m : ℕ) (numbers : List ℕ) (i p : ℕ) → length numbers ≡ 8 → m ≤ 8 → i < m → (places : List ℕ) → length places ≡ 8 → ((k : ℕ) → k < m → get_or places k 0 ≡ get_or numbers k 0) → ((k : ℕ) → m ≤ k → k < 8 → get_or places k 0 ≡ 0) →
+    set places i p ≡ padded (take m (set numbers i p))
+made m numbers i p eight most h places long stored rest = ext_get_or 0 (set places i p) (padded (take m (set numbers i p))) (length-set places i p ∙ long ∙ sym (group_long m numbers i p eight most)) (λ j l. at j (omega (arith, l, length-set places i p, long)) (ℕ_discrete j i) (dec_lt j m))
+  where
+    at : (j : ℕ) → j < 8 → Dec (j ≡ i) → Dec (j < m) → get_or (set places i p) j 0 ≡ get_or (padded (take m (set numbers i p))) j 0
+    at j l (yes e) d = rw e (get_or-set_same places i p 0 (omega (arith, long)) ∙ sym (group_at m numbers i p eight most h))
+    at j l (no n) (yes d) = get_or-set_other places i j p 0 n ∙ stored j d ∙ sym (group_other m numbers i p eight most j n d)
+    at j l (no n) (no d) = get_or-set_other places i j p 0 n ∙ rest j (omega arith) l ∙ sym (group_rest m numbers i p eight most j (omega arith) l)

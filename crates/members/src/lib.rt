@@ -1,31 +1,49 @@
 // The members of a candidate, in columns of eight: which is topmost, how far they lie apart, and the group that they are.
 #![tactic(auto)]
 
-ghost use Rattle.std.specs.Prelude.{◌≡◌, true, false, cond, List, ℕ, ◌≤◌, ◌<◌, max, ℤ, length, take, drop, get_or, set};
+ghost use Rattle.std.specs.Prelude.{◌≡◌, true, false, cond, ℕ, ◌≤◌, ◌<◌, max, length, take, drop, get_or, set, IfSome};
 ghost use Rattle.plane.specs.Plane.{Ranged};
 ghost use Rattle.kit.specs.Kit.{held, padded};
-ghost use Rattle.table.specs.Table.{table};
 ghost use Rattle.tree.specs.Tree.{thing, kit_of, box_at, box_of};
-ghost use Rattle.tree.specs.Lent.{sides};
-ghost use Rattle.walks.specs.Order.{before};
 ghost use Rattle.closest.specs.Group.{farthest, spread};
 ghost use Rattle.members.specs.Boxes.{without, skip, AllRanged, boxes_at, UpTo};
+ghost use Rattle.members.specs.Columns.{sides_of, with_member, eight_of};
 ghost use Rattle.members.specs.Levels.{next_top, next_high};
-ghost use Rattle.members.specs.Best.{best_at, limit_of, near, improved, Stepped};
+ghost use Rattle.members.specs.Best.{best_at, best_in, limit_of, near, improved, Stepped};
 
-// The best group known.
-#[derive(Drop)]
-pub struct Best {
-    pub known: bool,
+use table::Table;
+use tree::{Sides, Tree};
+
+// A group of places, and its squared diameter.
+#[derive(Clone, Copy)]
+pub struct Group {
     pub squared: u64,
     pub places: [u16; 8],
 }
 
-// Internal: the larger of two numbers.
-pub fn larger(a: u64, b: u64) -> u64
-    ensures { result ≡ max a b }
-{
-    if a < b { b } else { a }
+// How far a walk has come: the steps that it took, and the best group that it knows.
+#[derive(Drop)]
+pub struct Progress {
+    pub steps: u32,
+    pub best: Option<Group>,
+}
+
+// What a walk is asked for: the first m of eight kinds, within an allowance of steps.
+#[derive(Clone, Copy)]
+pub struct Want {
+    pub kinds: [u8; 8],
+    pub m: usize,
+    pub allowance: u32,
+}
+
+// The numbers and the boxes of a candidate's members, by columns; behind its members they are never read.
+#[derive(Clone, Copy)]
+pub struct Members {
+    pub numbers: [u16; 8],
+    pub west: [i32; 8],
+    pub east: [i32; 8],
+    pub south: [i32; 8],
+    pub north: [i32; 8],
 }
 
 // Internal: the leftmost of the highest of m members, once `top`, which was, is replaced.
@@ -44,29 +62,6 @@ pub fn next_high(m: usize, top: usize, high: u8) -> u8
     if top + 1 < m { high } else { high - 1 }
 }
 
-// Box i of four columns of sides.
-fn box_in(
-    west: &[i32; 8],
-    east: &[i32; 8],
-    south: &[i32; 8],
-    north: &[i32; 8],
-    i: usize,
-) -> plane::Box
-    requires { i < 8 }
-    ensures { result ≡ box_at (sides west.now east.now south.now north.now) i }
-{
-    plane::Box {
-        x: plane::Span {
-            lo: west[i],
-            hi: east[i],
-        },
-        y: plane::Span {
-            lo: south[i],
-            hi: north[i],
-        },
-    }
-}
-
 // Where element k of a list without its element i stands in the whole list.
 fn skipping(i: usize, k: usize) -> usize
     requires { k < 8 }
@@ -75,323 +70,228 @@ fn skipping(i: usize, k: usize) -> usize
     if k < i { k } else { k + 1 }
 }
 
-// Internal: the square above which a candidate is dropped; while no group is known, the largest number, which nothing is above.
-pub fn limit_of(known: bool, squared: u64) -> u64
-    ensures { result ≡ limit_of known squared }
-{
-    if known { squared } else { 18446744073709551615 }
-}
-
-// Internal: the largest squared distance of b and any of m boxes but box i; once it is above the limit, the rest is not looked at.
-pub fn row_of(
-    m: usize,
-    west: &[i32; 8],
-    east: &[i32; 8],
-    south: &[i32; 8],
-    north: &[i32; 8],
-    i: usize,
-    b: plane::Box,
-    limit: u64,
-) -> u64
-    requires m_bound { (m ≤ 8) × (i < m) }
-    requires all_ranged { AllRanged (take m (boxes_at (sides west.now east.now south.now north.now))) × Ranged b }
-    ensures { UpTo limit (farthest b (without i (take m (boxes_at (sides west.now east.now south.now north.now))))) result }
-{
-    let mut most: u64 = 0;
-    let mut k: usize = 0;
-    while k + 1 < m {
-        let c = box_in(west, east, south, north, skipping(i, k));
-        most = larger(most, plane::apart_of(b, c));
-        k += 1;
-        if limit < most {
-            return most;
+impl Members {
+    // Internal: eight members of one number and one box.
+    pub fn alike(number: u16, b: plane::Box) -> Members
+        ensures { result ≡ eight_of number b }
+    {
+        Members {
+            numbers: [number; 8],
+            west: [b.x.lo; 8],
+            east: [b.x.hi; 8],
+            south: [b.y.lo; 8],
+            north: [b.y.hi; 8],
         }
     }
-    most
-}
 
-// Internal: is b no farther than the best known from each of m boxes but box i? While no group is known, nothing is too far.
-pub fn is_near(
-    m: usize,
-    west: &[i32; 8],
-    east: &[i32; 8],
-    south: &[i32; 8],
-    north: &[i32; 8],
-    i: usize,
-    b: plane::Box,
-    known: bool,
-    squared: u64,
-) -> bool
-    requires m_bound { (m ≤ 8) × (i < m) }
-    requires all_ranged { AllRanged (take m (boxes_at (sides west.now east.now south.now north.now))) × Ranged b }
-    ensures { result ≡ near known squared (farthest b (without i (take m (boxes_at (sides west.now east.now south.now north.now))))) }
-{
-    if !known {
-        return true;
-    }
-    let mut k: usize = 0;
-    while k + 1 < m {
-        let c = box_in(west, east, south, north, skipping(i, k));
-        if squared < plane::apart_of(b, c) {
-            return false;
+    // The box of member i.
+    fn box_at(&self, i: usize) -> plane::Box
+        requires { i < 8 }
+        ensures { result ≡ box_at (sides_of self.now) i }
+    {
+        plane::Box {
+            x: plane::Span {
+                lo: self.west[i],
+                hi: self.east[i],
+            },
+            y: plane::Span {
+                lo: self.south[i],
+                hi: self.north[i],
+            },
         }
-        k += 1;
     }
-    true
-}
 
-// The larger of `least` and the largest squared distance of b and any of m boxes but box i, without the first `from` of these.
-fn farthest_of(
-    m: usize,
-    west: &[i32; 8],
-    east: &[i32; 8],
-    south: &[i32; 8],
-    north: &[i32; 8],
-    i: usize,
-    from: usize,
-    b: plane::Box,
-    least: u64,
-) -> u64
-    requires m_bound { (m ≤ 8) × ((i < m) × (from ≤ 8)) }
-    requires all_ranged { AllRanged (take m (boxes_at (sides west.now east.now south.now north.now))) × Ranged b }
-    ensures { result ≡ max least (farthest b (drop from (without i (take m (boxes_at (sides west.now east.now south.now north.now)))))) }
-{
-    let mut most = least;
-    let mut k = from;
-    while k + 1 < m {
-        let c = box_in(west, east, south, north, skipping(i, k));
-        most = larger(most, plane::apart_of(b, c));
-        k += 1;
+    // Internal: member i is replaced by one of a number and a box.
+    pub fn put(&mut self, i: usize, number: u16, b: plane::Box)
+        requires { i < 8 }
+        ensures { self.new ≡ with_member self.old i number b }
+    {
+        self.numbers[i] = number;
+        self.west[i] = b.x.lo;
+        self.east[i] = b.x.hi;
+        self.south[i] = b.y.lo;
+        self.north[i] = b.y.hi;
     }
-    most
-}
 
-// The largest squared distance of any two of m boxes but box i.
-fn spread_of(
-    m: usize,
-    west: &[i32; 8],
-    east: &[i32; 8],
-    south: &[i32; 8],
-    north: &[i32; 8],
-    i: usize,
-) -> u64
-    requires m_bound { (m ≤ 8) × (i < m) }
-    requires all_ranged { AllRanged (take m (boxes_at (sides west.now east.now south.now north.now))) }
-    ensures { result ≡ spread (without i (take m (boxes_at (sides west.now east.now south.now north.now)))) }
-{
-    let mut most: u64 = 0;
-    let mut k: usize = 0;
-    while k + 1 < m {
-        let b = box_in(west, east, south, north, skipping(i, k));
-        k += 1;
-        most = farthest_of(m, west, east, south, north, i, k, b, most);
+    // Internal: the largest squared distance of b and any of m boxes but box i; once it is above the limit, the rest is not looked at.
+    pub fn row_of(&self, m: usize, i: usize, b: plane::Box, limit: u64) -> u64
+        requires m_bound { (m ≤ 8) × (i < m) }
+        requires all_ranged { AllRanged (take m (boxes_at (sides_of self.now))) × Ranged b }
+        ensures { UpTo limit (farthest b (without i (take m (boxes_at (sides_of self.now))))) result }
+    {
+        let mut most: u64 = 0;
+        for k in 0..m - 1 {
+            let c = self.box_at(skipping(i, k));
+            most = most.max(plane::apart_of(b, c));
+            if limit < most {
+                return most;
+            }
+        }
+        most
     }
-    most
-}
 
-// Internal: the same, where the largest number stands for one that is not known yet.
-pub fn rest_of(
-    m: usize,
-    west: &[i32; 8],
-    east: &[i32; 8],
-    south: &[i32; 8],
-    north: &[i32; 8],
-    i: usize,
-    rest: u64,
-) -> u64
-    requires m_bound { (m ≤ 8) × (i < m) }
-    requires all_ranged { AllRanged (take m (boxes_at (sides west.now east.now south.now north.now))) }
-    requires rest_value { rest < 18446744073709551615 → rest ≡ spread (without i (take m (boxes_at (sides west.now east.now south.now north.now)))) }
-    ensures { result ≡ spread (without i (take m (boxes_at (sides west.now east.now south.now north.now)))) }
-{
-    if rest < 18446744073709551615 {
-        return rest;
-    }
-    spread_of(m, west, east, south, north, i)
-}
-
-// Place j of the group of m places in which p is place i; 0 behind it.
-fn number_at(m: usize, numbers: &[u16; 8], i: usize, p: u16, j: usize) -> u16
-    requires m_bound { (m ≤ 8) × ((i < m) × (j < 8)) }
-    requires numbers_len { length numbers.now ≡ 8 }
-    ensures { result ≡ get_or (padded (take m (set numbers.now i p))) j 0 }
-{
-    if j == i {
-        return p;
-    }
-    if j < m {
-        return numbers[j];
-    }
-    0
-}
-
-// Is that group before another in dictionary order?
-fn is_before(m: usize, numbers: &[u16; 8], i: usize, p: u16, places: &[u16; 8]) -> bool
-    requires m_bound { (m ≤ 8) × (i < m) }
-    requires numbers_len { (length numbers.now ≡ 8) × (length places.now ≡ 8) }
-    ensures { result ≡ before (padded (take m (set numbers.now i p))) places.now }
-{
-    let mut j: usize = 0;
-    while j < 8 {
-        let a = number_at(m, numbers, i, p, j);
-        let b = places[j];
-        if a < b {
+    // Internal: is b no farther than the best known from each of m boxes but box i? While no group is known, nothing is too far.
+    pub fn is_near(&self, m: usize, i: usize, b: plane::Box, best: &Option<Group>) -> bool
+        requires m_bound { (m ≤ 8) × (i < m) }
+        requires all_ranged { AllRanged (take m (boxes_at (sides_of self.now))) × Ranged b }
+        ensures { result ≡ near (best_in best.now).known (best_in best.now).squared (farthest b (without i (take m (boxes_at (sides_of self.now))))) }
+    {
+        let Some(group) = best else {
             return true;
+        };
+        let squared = group.squared;
+        for k in 0..m - 1 {
+            let c = self.box_at(skipping(i, k));
+            if squared < plane::apart_of(b, c) {
+                return false;
+            }
         }
-        if b < a {
+        true
+    }
+
+    // The larger of `least` and the largest squared distance of b and any of m boxes but box i, without the first `from` of these.
+    fn farthest_of(&self, m: usize, i: usize, from: usize, b: plane::Box, least: u64) -> u64
+        requires m_bound { (m ≤ 8) × ((i < m) × (from < m)) }
+        requires all_ranged { AllRanged (take m (boxes_at (sides_of self.now))) × Ranged b }
+        ensures { result ≡ max least (farthest b (drop from (without i (take m (boxes_at (sides_of self.now)))))) }
+    {
+        let mut most = least;
+        for k in from..m - 1 {
+            let c = self.box_at(skipping(i, k));
+            most = most.max(plane::apart_of(b, c));
+        }
+        most
+    }
+
+    // The largest squared distance of any two of m boxes but box i.
+    fn spread_of(&self, m: usize, i: usize) -> u64
+        requires m_bound { (m ≤ 8) × (i < m) }
+        requires all_ranged { AllRanged (take m (boxes_at (sides_of self.now))) }
+        ensures { result ≡ spread (without i (take m (boxes_at (sides_of self.now)))) }
+    {
+        let mut most: u64 = 0;
+        for k in 0..m - 1 {
+            let b = self.box_at(skipping(i, k));
+            most = self.farthest_of(m, i, k + 1, b, most);
+        }
+        most
+    }
+
+    // Internal: the same, which may be known.
+    pub fn rest_of(&self, m: usize, i: usize, rest: Option<u64>) -> u64
+        requires m_bound { (m ≤ 8) × (i < m) }
+        requires all_ranged { AllRanged (take m (boxes_at (sides_of self.now))) }
+        requires rest_value { IfSome rest (λ r. r ≡ spread (without i (take m (boxes_at (sides_of self.now))))) }
+        ensures { result ≡ spread (without i (take m (boxes_at (sides_of self.now)))) }
+    {
+        match rest {
+            Some(r) => r,
+            None => self.spread_of(m, i),
+        }
+    }
+
+    // Internal: the group of m places in which p is place i; 0 behind it.
+    pub fn group_with(&self, m: usize, i: usize, p: u16) -> [u16; 8]
+        requires { (m ≤ 8) × (i < m) }
+        ensures { result ≡ padded (take m (set self.now.numbers i p)) }
+    {
+        let mut places = [0u16; 8];
+        for j in 0..m {
+            places[j] = self.numbers[j];
+        }
+        places[i] = p;
+        places
+    }
+}
+
+impl Progress {
+    // Internal: takes a step, if the allowance has one left.
+    pub fn take_step(&mut self, allowance: u32) -> bool
+        ensures stepped { Stepped allowance self.old.steps result self.new.steps }
+        ensures kept { self.new.best ≡ self.old.best }
+    {
+        if allowance <= self.steps {
             return false;
         }
-        j += 1;
+        self.steps += 1;
+        true
     }
-    false
+
+    // Internal: the square above which a candidate is dropped; while no group is known, the largest number, which nothing is above.
+    pub fn limit(&self) -> u64
+        ensures { result ≡ limit_of (best_in self.now.best).known (best_in self.now.best).squared }
+    {
+        match &self.best {
+            Some(group) => group.squared,
+            None => u64::MAX,
+        }
+    }
+
+    // Is a group of this squared diameter better than the best known?
+    fn is_better(&self, squared: u64, places: &[u16; 8]) -> bool
+        ensures { improved places.now squared (best_in self.now.best) ≡ cond result (best_at true squared places.now) (best_in self.now.best) }
+    {
+        match &self.best {
+            None => true,
+            Some(group) => squared < group.squared
+                || squared == group.squared && *places < group.places,
+        }
+    }
+
+    // Internal: a group becomes the best known if it is better.
+    pub fn offer(&mut self, squared: u64, places: [u16; 8])
+        ensures best { best_in self.new.best ≡ improved places squared (best_in self.old.best) }
+        ensures steps { self.new.steps ≡ self.old.steps }
+    {
+        if self.is_better(squared, &places) {
+            self.best = Some(Group { squared, places });
+        }
+    }
 }
 
-// That group is written over another.
-fn store(m: usize, numbers: &[u16; 8], i: usize, p: u16, places: &mut [u16; 8])
-    requires m_bound { (m ≤ 8) × (i < m) }
-    requires numbers_len { (length numbers.now ≡ 8) × (length places.old ≡ 8) }
-    ensures { places.new ≡ (padded (take m (set numbers.now i p))) }
-{
-    let mut j: usize = 0;
-    while j < 8 {
-        places[j] = number_at(m, numbers, i, p, j);
-        j += 1;
-    }
-}
-
-// Is that group, of this squared diameter, better than the best known?
-fn is_better(
-    m: usize,
-    numbers: &[u16; 8],
-    i: usize,
-    p: u16,
-    squared: u64,
-    known: bool,
-    least: u64,
-    places: &[u16; 8],
-) -> bool
-    requires m_bound { (m ≤ 8) × (i < m) }
-    requires numbers_len { (length numbers.now ≡ 8) × (length places.now ≡ 8) }
-    ensures { improved (padded (take m (set numbers.now i p))) squared (best_at known least places.now) ≡ cond result (best_at true squared (padded (take m (set numbers.now i p)))) (best_at known least places.now) }
-{
-    if !known {
-        return true;
-    }
-    if squared < least {
-        return true;
-    }
-    if least < squared {
-        return false;
-    }
-    is_before(m, numbers, i, p, places)
-}
-
-// Internal: that group becomes the best known if it is better.
-pub fn offer(
-    m: usize,
-    numbers: &[u16; 8],
-    i: usize,
-    p: u16,
-    d: u64,
-    known: &mut bool,
-    squared: &mut u64,
-    places: &mut [u16; 8],
-)
-    requires m_bound { (m ≤ 8) × (i < m) }
-    requires numbers_len { (length numbers.now ≡ 8) × (length places.old ≡ 8) }
-    ensures { best_at known.new squared.new places.new ≡ improved (padded (take m (set numbers.now i p))) d (best_at known.old squared.old places.old) }
-{
-    if is_better(m, numbers, i, p, d, *known, *squared, places) {
-        *known = true;
-        *squared = d;
-        store(m, numbers, i, p, places);
+impl Want {
+    // Internal: the kind in place i of a want.
+    pub fn kind_at(&self, i: usize) -> usize
+        ensures { result ≡ get_or self.now.kinds i 0 }
+    {
+        match self.kinds.get(i) {
+            Some(kind) => usize::from(*kind),
+            None => 0,
+        }
     }
 }
 
 // Internal: the box of an entry: of a place for a leaf, else of a node.
-pub fn box_of(
-    leaf: bool,
-    e: usize,
-    x: &[i32],
-    y: &[i32],
-    x_lo: &[i32],
-    x_hi: &[i32],
-    y_lo: &[i32],
-    y_hi: &[i32],
-) -> plane::Box
-    requires e_in_bounds { leaf ≡ true → (e < length x.now) × (e < length y.now) }
-    requires e_in_bounds_2 { leaf ≡ false → (e < length x_lo.now) × ((e < length x_hi.now) × ((e < length y_lo.now) × (e < length y_hi.now))) }
-    ensures { (kit : List ℕ) → result ≡ box_of (table x.now y.now kit) (sides x_lo.now x_hi.now y_lo.now y_hi.now) (thing leaf e) }
+pub fn box_of(leaf: bool, e: usize, t: &Table, b: &Sides) -> plane::Box
+    requires e_in_bounds { leaf ≡ true → (e < length t.now.x) × (e < length t.now.y) }
+    requires e_in_bounds_2 { leaf ≡ false → (e < length b.now.x_lo) × ((e < length b.now.x_hi) × ((e < length b.now.y_lo) × (e < length b.now.y_hi))) }
+    ensures { result ≡ box_of t.now b.now (thing leaf e) }
 {
     if leaf {
-        return tree::box_at(x, x, y, y, e);
+        return Sides::of_points(t).box_at(e);
     }
-    tree::box_at(x_lo, x_hi, y_lo, y_hi, e)
+    b.box_at(e)
 }
 
 // The kit word of an entry.
-fn kit_at(leaf: bool, e: usize, kit: &[u64], kits: &[u64]) -> u64
-    requires e_in_bounds { leaf ≡ true → e < length kit.now }
+fn kit_at(leaf: bool, e: usize, t: &Table, kits: &[u64]) -> u64
+    requires e_in_bounds { leaf ≡ true → e < length t.now.kit }
     requires e_in_bounds_2 { leaf ≡ false → e < length kits.now }
-    ensures { (x y : List ℤ) → result ≡ kit_of (table x y kit.now) kits.now (thing leaf e) }
+    ensures { result ≡ kit_of t.now kits.now (thing leaf e) }
 {
-    if leaf {
-        return kit[e];
-    }
-    kits[e]
+    let kit = if leaf { t.kit } else { kits };
+    kit[e]
 }
 
 // Internal: does the entry at list index i hold a kind?
-pub fn holds_at(
-    leaf: bool,
-    i: usize,
-    kind: usize,
-    entries: &[u16],
-    kit: &[u64],
-    kits: &[u64],
-) -> bool
-    requires i_in_bounds { (i < length entries.now) × (kind < 64) }
-    requires i_in_bounds_2 { leaf ≡ true → get_or entries.now i 0 < length kit.now }
-    requires i_in_bounds_3 { leaf ≡ false → get_or entries.now i 0 < length kits.now }
-    ensures { (x y : List ℤ) → result ≡ held (kit_of (table x y kit.now) kits.now (thing leaf (get_or entries.now i 0))) kind }
+pub fn holds_at(leaf: bool, i: usize, kind: usize, t: &Table, tree: &Tree) -> bool
+    requires i_in_bounds { (i < length tree.now.shape.entries) × (kind < 64) }
+    requires i_in_bounds_2 { leaf ≡ true → get_or tree.now.shape.entries i 0 < length t.now.kit }
+    requires i_in_bounds_3 { leaf ≡ false → get_or tree.now.shape.entries i 0 < length tree.now.kits }
+    ensures { result ≡ held (kit_of t.now tree.now.kits (thing leaf (get_or tree.now.shape.entries i 0))) kind }
 {
-    let e = tree::wide16(entries[i]);
-    kit::holds(kit_at(leaf, e, kit, kits), kind)
-}
-
-// Internal: the kind in place i of a want.
-pub fn kind_at(kinds: [u8; 8], i: usize) -> usize
-    ensures { result ≡ get_or kinds i 0 }
-{
-    if i < 8 {
-        return tree::wide8(kinds[i]);
-    }
-    0
-}
-
-// Internal: number i of eight is replaced.
-pub fn put16(numbers: &mut [u16; 8], i: usize, v: u16)
-    requires { i < 8 }
-    ensures { numbers.new ≡ set numbers.old i v }
-{
-    numbers[i] = v;
-}
-
-// Internal: side i of eight is replaced.
-pub fn put32(ends: &mut [i32; 8], i: usize, v: i32)
-    requires { i < 8 }
-    ensures { ends.new ≡ set ends.old i v }
-{
-    ends[i] = v;
-}
-
-// Internal: takes a step, if the allowance has one left.
-pub fn take_step(allowance: u32, steps: &mut u32) -> bool
-    ensures { Stepped allowance steps.old result steps.new }
-{
-    if allowance <= *steps {
-        return false;
-    }
-    *steps += 1;
-    true
+    let shape = &tree.shape;
+    let entries = shape.entries;
+    let e = usize::from(entries[i]);
+    kit::holds(kit_at(leaf, e, t, tree.kits), kind)
 }

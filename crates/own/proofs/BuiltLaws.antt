@@ -1,6 +1,6 @@
 -- Our tree in lent columns: what the builder leaves, and its used part.
 -- Assumes nothing.
-use mathlib.Core.Path.{◌≡◌, refl, sym, ap, ap₂, subst, ◌∙◌}
+use mathlib.Core.Path.{◌≡◌, refl, ap, ap₂, subst, ◌∙◌}
 use mathlib.Core.List.{List, [], ◌++◌, append-nil}
 use Prim.Native.Nat.{ℕ, ◌≤◌}
 use native.Mathlib.Omega.{arith}
@@ -11,29 +11,23 @@ use Rattle.table.proofs.TableLaws.{valid_even}
 use Rattle.tree.specs.Tree.{Tree}
 use Rattle.tree.specs.Lent.{shape, sides, tree}
 use Rattle.tree.specs.Rules.{Room, lengths, tree_rules}
-use Rattle.verdict.specs.Rules.{AllHold, verdict, says}
-use Rattle.verdict.specs.declared.Verdict.{Verdict}
-use Rattle.tree.proofs.TreeLaws.{meets_of}
+use Rattle.verdict.specs.Rules.{Verdict, AllHold, verdict, says}
+use Rattle.verdict.specs.Numbers.{number}
+use Rattle.verdict.specs.declared.Refusal.{Refusal}
 use Rattle.verdict.proofs.RuleLaws.{all_hold}
 use Rattle.order.proofs.TabLaws.{length_tab}
 use Rattle.groups.specs.Members.{Passes}
 use Rattle.levels.specs.Levels.{nodes, listed}
 use Rattle.levels.specs.Built.{built, column, entries_of}
-use Rattle.build.specs.Room.{build_rules, over, written_over, afterwards}
+use Rattle.build.specs.Room.{build_rules, over, written_over}
 use Rattle.levels.proofs.LevelLaws.{nodes_few, listed_is}
 use Rattle.levels.proofs.LaidLaws.{length_entries}
+use Rattle.own.specs.Own.{used}
+use Rattle.verdict.proofs.SaidLaws.{numbered}
 use Rattle.build.proofs.PassLaws.{built_passes}
 
 over_nothing : {A : Type 0} (l : List A) → over l [] ≡ l
 over_nothing l = ap₂ ◌++◌ (refl {a = l}) (drop-nil (length l)) ∙ append-nil l
-
--- a tree with its columns cut off behind what is used
-abbrev pub used : Tree → Tree
-used w =
-    let n = w.shape.nodes in
-    let j = w.shape.listed in
-    tree (shape n j (take n w.shape.level) (take n w.shape.start) (take n w.shape.count) (take j w.shape.entries))
-    (sides (take n w.sides.x_lo) (take n w.sides.x_hi) (take n w.sides.y_lo) (take n w.sides.y_hi)) (take n w.kits)
 
 used_column : {A : Type 0} (t : Table) (f : ℕ → A) (before : List A) → take (nodes (places t)) (over (column t f) before) ≡ column t f
 used_column t f before = take_at (column t f) _ (nodes (places t)) (length_tab f (nodes (places t)))
@@ -68,16 +62,22 @@ module _ {t : Table} (v : Valid t) (before : Tree) (room : Room 273 4368 (length
         kits = omega (arith, room.kits);
       }
 
-  module _ {code at : ℕ} (said : says code at ≡ verdict (build_rules t (lengths before))) {after : Tree} (left : after ≡ afterwards code t before) where
-    -- so the builder refuses nothing
-    made : after ≡ written_over (built t) before
-    made =
-        let none : says code at ≡ says 0 0 = said ∙ all_hold (build_rules t (lengths before)) (v.0, (v.1.0, (λ _ _ _. enough, tt))) in
-        left ∙ ap (λ (w : Verdict). afterwards w.code t before) none
+  -- so the builder refuses nothing
+  allowed : verdict (build_rules t (lengths before)) ≡ says 0 0
+  allowed = all_hold (build_rules t (lengths before)) (v.0, (v.1.0, (λ _ _ _. enough, tt)))
 
-    pub made_room : Room after.shape.nodes after.shape.listed (lengths after)
-    made_room = subst (λ (w : Tree). Room w.shape.nodes w.shape.listed (lengths w)) (sym made) (meets_of t (written_over (built t) before) (built_passes t v before)).counted.room
+  pub none_refused : (e : Refusal) → says (number e.reason) e.at ≡ verdict (build_rules t (lengths before)) → ⊥
+  none_refused e h = numbered e.reason (ap (λ (w : Verdict). w.code) (h ∙ allowed))
 
-    -- the used part of the columns is our tree
+  -- and its tree stands in the columns, of which the used part is our tree
+  module _ {after : Tree} (left : after ≡ written_over (built t) before) where
     pub used_built : used after ≡ built t
-    used_built = ap used made ∙ used_over t (valid_even v).few before
+    used_built = ap used left ∙ used_over t (valid_even v).few before
+
+    pub nodes_wide : after.shape.nodes ≤ 273
+    nodes_wide = omega (arith, ap (λ (w : Tree). w.shape.nodes) left, nodes_few (places t) (valid_even v).few)
+
+    pub listed_wide : after.shape.listed ≤ 4368
+    listed_wide =
+        let few = (valid_even v).few in
+        omega (arith, ap (λ (w : Tree). w.shape.listed) left, listed_is (places t) few, nodes_few (places t) few)

@@ -2,85 +2,95 @@
 #![tactic(auto)]
 
 ghost use Rattle.std.specs.Prelude.{◌≡◌};
-ghost use Rattle.table.specs.Table.{table, Valid};
-ghost use Rattle.tree.specs.Lent.{shape, sides, tree};
-ghost use Rattle.tree.specs.Rules.{Room, lengths};
+ghost use Rattle.table.specs.Table.{Valid};
 ghost use Rattle.levels.specs.Built.{built};
 ghost use Rattle.found.specs.Search.{searched};
+ghost use Rattle.own.specs.Own.{held, Wide};
 
-// The search over our tree, which is built in the lent columns.
-fn search_in(
-    x: &[i32],
-    y: &[i32],
-    kit: &[u64],
-    level: &mut [u8],
-    start: &mut [u16],
-    count: &mut [u8],
-    x_lo: &mut [i32],
-    x_hi: &mut [i32],
-    y_lo: &mut [i32],
-    y_hi: &mut [i32],
-    kits: &mut [u64],
-    entries: &mut [u16],
-    want: u64,
-    allowance: u32,
-) -> found::Found
-    requires { Valid (table x.now y.now kit.now) × Room 273 4368 (lengths (tree (shape 0 0 level.old start.old count.old entries.old) (sides x_lo.old x_hi.old y_lo.old y_hi.old) kits.old)) }
-    ensures { result ≡ searched (table x.now y.now kit.now) (built (table x.now y.now kit.now)) want allowance }
-{
-    let b = build::build(
-        x, y, kit, level, start, count, x_lo, x_hi, y_lo, y_hi, kits, entries,
-    );
-    let nodes = b.nodes;
-    let listed = b.listed;
-    search::search_over(
-        x,
-        y,
-        kit,
-        &level[..nodes],
-        &start[..nodes],
-        &count[..nodes],
-        &x_lo[..nodes],
-        &x_hi[..nodes],
-        &y_lo[..nodes],
-        &y_hi[..nodes],
-        &kits[..nodes],
-        &entries[..listed],
-        nodes,
-        listed,
-        want,
-        allowance,
-    )
+use build::{Built, Columns};
+use found::Found;
+use table::Table;
+use tree::{Shape, Sides, Tree};
+
+// Columns with room for the tree of any table.
+#[derive(Drop)]
+struct Room {
+    level: [u8; 273],
+    start: [u16; 273],
+    count: [u8; 273],
+    x_lo: [i32; 273],
+    x_hi: [i32; 273],
+    y_lo: [i32; 273],
+    y_hi: [i32; 273],
+    kits: [u64; 273],
+    entries: [u16; 4368],
+}
+
+impl Room {
+    // Builds our tree.
+    fn build(&mut self, t: &Table) -> Built
+        requires { Valid t.now }
+        ensures tree_after { held result self.new ≡ built t.now }
+        ensures wide { Wide result }
+    {
+        let columns = Columns {
+            level: &mut self.level,
+            start: &mut self.start,
+            count: &mut self.count,
+            x_lo: &mut self.x_lo,
+            x_hi: &mut self.x_hi,
+            y_lo: &mut self.y_lo,
+            y_hi: &mut self.y_hi,
+            kits: &mut self.kits,
+            entries: &mut self.entries,
+        };
+        match build::build(t, columns) {
+            Ok(b) => b,
+            Err(_) => unreachable!(),
+        }
+    }
+
+    // The part that is used.
+    fn tree(&self, b: Built) -> Tree
+        requires { Wide b }
+        ensures { result ≡ held b self.now }
+    {
+        Tree {
+            shape: Shape {
+                nodes: b.nodes,
+                listed: b.listed,
+                level: &self.level[..b.nodes],
+                start: &self.start[..b.nodes],
+                count: &self.count[..b.nodes],
+                entries: &self.entries[..b.listed],
+            },
+            sides: Sides {
+                x_lo: &self.x_lo[..b.nodes],
+                x_hi: &self.x_hi[..b.nodes],
+                y_lo: &self.y_lo[..b.nodes],
+                y_hi: &self.y_hi[..b.nodes],
+            },
+            kits: &self.kits[..b.nodes],
+        }
+    }
 }
 
 // Internal: the search over our tree of a table.
-pub fn search_table(x: &[i32], y: &[i32], kit: &[u64], want: u64, allowance: u32) -> found::Found
-    requires { Valid (table x.now y.now kit.now) }
-    ensures { result ≡ searched (table x.now y.now kit.now) (built (table x.now y.now kit.now)) want allowance }
+pub fn search_table(t: &Table, want: u64, allowance: u32) -> Found
+    requires { Valid t.now }
+    ensures { result ≡ searched t.now (built t.now) want allowance }
 {
-    let mut level = [0u8; 273];
-    let mut start = [0u16; 273];
-    let mut count = [0u8; 273];
-    let mut x_lo = [0i32; 273];
-    let mut x_hi = [0i32; 273];
-    let mut y_lo = [0i32; 273];
-    let mut y_hi = [0i32; 273];
-    let mut kits = [0u64; 273];
-    let mut entries = [0u16; 4368];
-    search_in(
-        x,
-        y,
-        kit,
-        &mut level,
-        &mut start,
-        &mut count,
-        &mut x_lo,
-        &mut x_hi,
-        &mut y_lo,
-        &mut y_hi,
-        &mut kits,
-        &mut entries,
-        want,
-        allowance,
-    )
+    let mut room = Room {
+        level: [0; 273],
+        start: [0; 273],
+        count: [0; 273],
+        x_lo: [0; 273],
+        x_hi: [0; 273],
+        y_lo: [0; 273],
+        y_hi: [0; 273],
+        kits: [0; 273],
+        entries: [0; 4368],
+    };
+    let b = room.build(t);
+    search::search_over(t, &room.tree(b), want, allowance)
 }

@@ -1,28 +1,38 @@
 -- What the lines of a place tell, from what each tells.
 -- Assumes nothing.
 use Prim.Native.Nat.{ℕ, ◌+◌, ◌≤◌}
-use mathlib.Core.Path.{◌≡◌, refl, sym, subst}
+use mathlib.Core.Path.{◌≡◌, refl}
 use mathlib.Core.List.{List}
 use native.Mathlib.Omega.{arith}
-use lib.IntN.{ℤ, pos}
+use lib.Dec.{T}
+use lib.IntN.{ℤ, pos, negsuc, nat_abs}
+use mir.Syntax.{w32}
+use mir.Val.{SFits, to_z, of_z}
+use mir.Facts.{to_z-of_z}
 use Rattle.lines.specs.Text.{ascii, decimal}
 use Rattle.lines.specs.Form.{word, coordinate, bits}
-use Rattle.lines.specs.Line.{Got, refused, got, read_line}
-use Rattle.readers.specs.Readers.{Read}
-use Rattle.readers.proofs.ReadLaws.{tell_refused}
-use Rattle.parts.specs.declared.PlaceLines.{PlaceLines}
-use Rattle.rows.specs.Sheet.{Place, place_part}
+use Rattle.lines.specs.Line.{fair, refused, got, read_line}
+use Rattle.lines.proofs.FormLaws.{sound_coordinate}
+use Rattle.lines.proofs.PartLaws.{lawful_line}
+use Rattle.rows.specs.Sheet.{Place, place_part, x_of, y_of}
+use Rattle.rows.proofs.SheetLaws.{lawful_place}
 
 pub place_lines : (i : ℕ) (p : Place) → (place_part i).lines p ≡ 4
 unfolding place_part
 place_lines i p = refl
 
--- what is told of a place
-abbrev pub PlaceTold : List ℕ → Got Place → PlaceLines → Type 0
-PlaceTold s g r = Read s g 0 (pos 0, (pos 0, 0)) r.code r.at r.next (r.x, (r.y, r.kit))
+-- a coordinate that was read fits 32 bits
+fits_32 : (z : ℤ) → nat_abs z ≤ 1000000 → SFits w32 z
+fits_32 (pos n) h = record { sfits = omega arith }
+fits_32 (negsuc n) h = record { sfits = omega arith }
 
-pub place_refused : (s : List ℕ) (g : Got Place) (r : PlaceLines) (code at : ℕ) → r ≡ record { code = code; at = at; next = 0; x = pos 0; y = pos 0; kit = 0 } → (g ≡ refused code at) × (51 ≤ code) → PlaceTold s g r
-place_refused s g r code at e w = subst (PlaceTold s g) (sym e) (tell_refused s g (pos 0, (pos 0, 0)) code at w.0 w.1)
+pub held_32 : (key : List ℕ) → T (fair key) → (n : ℕ) (s : List ℕ) (z : ℤ) (r : List ℕ) → read_line key (coordinate 1000000) n s ≡ got z r → to_z w32 (of_z w32 z) ≡ z
+held_32 key h n s z r e = to_z-of_z (fits_32 z ((lawful_line key (coordinate 1000000) h (sound_coordinate 1000000 (omega arith))).whole n s z r e).0)
+
+pub held_place : (i n : ℕ) (s : List ℕ) (p : Place) (r : List ℕ) → (place_part i).read n s ≡ got p r → (to_z w32 (of_z w32 (x_of p)) ≡ x_of p) × (to_z w32 (of_z w32 (y_of p)) ≡ y_of p)
+unfolding place_part
+held_place i n s p r e =
+    let w = ((lawful_place i).whole n s p r e).0 in (to_z-of_z (fits_32 (x_of p) w.1.1.0), to_z-of_z (fits_32 (y_of p) w.1.1.1.0))
 
 -- the first line that is refused decides
 module _ (i n : ℕ) (s : List ℕ) where

@@ -1,232 +1,113 @@
 // The lines of a place sheet, read one part after the other.
 #![tactic(auto)]
 
-ghost use Rattle.std.specs.Prelude.{◌≡◌, true, false, ◌+◌, ◌≤◌, ◌<◌, length, drop, pos};
-ghost use Rattle.readers.specs.Readers.{Read};
+ghost use Rattle.std.specs.Prelude.{◌≤◌, ◌<◌, length, drop, IfSome};
+ghost use Rattle.readers.specs.Readers.{Reads, ReadsAs};
 ghost use Rattle.rows.specs.Sheet.{place_part, query_part};
-ghost use Rattle.parts.specs.Parts.{head_part, PlaceReads};
+ghost use Rattle.parts.specs.Parts.{head_part, row, pair, PlaceReads};
 
-// The lines of a place: code 0, or the code and the line of a refusal; where the next line begins; the place.
-#[derive(Drop)]
-pub struct PlaceLines {
-    pub code: u8,
-    pub at: usize,
-    pub next: usize,
+use readers::{Fault, Line, Refusal};
+
+// A place on a sheet.
+#[derive(Clone, Copy)]
+pub struct Place {
     pub x: i32,
     pub y: i32,
     pub kit: u64,
 }
 
-// The first two lines: code 0, or the code and the line of a refusal; where the next line begins; the place count.
-#[derive(Drop)]
-pub struct HeadLines {
-    pub code: u8,
-    pub at: usize,
-    pub next: usize,
-    pub places: usize,
-}
-
-// The last three lines.
-#[derive(Drop)]
-pub struct QueryLines {
-    pub code: u8,
-    pub at: usize,
-    pub next: usize,
+// What follows the places.
+#[derive(Clone, Copy)]
+pub struct Query {
     pub want: u64,
     pub budget: u32,
 }
 
-// Internal: the lines 1 and 2, which begin at `at`.
-pub fn head_at(src: &[u8], at: usize) -> HeadLines
+// Internal: the lines 1 and 2, which begin at `at`: the place count.
+pub fn head_at(src: &[u8], at: usize) -> Result<Line<usize>, Refusal>
     requires { at ≤ length src.now }
-    ensures { Read src.now (head_part.read 1 (drop at src.now)) 0 0 result.code result.at result.next result.places }
+    ensures { Reads src.now (head_part.read 1 (drop at src.now)) result }
 {
-    let a = readers::line_word(src, at, b"sheet=", b"1");
-    if a.code != 0 {
-        return HeadLines {
-            code: a.code,
-            at: 1,
-            next: 0,
-            places: 0,
-        };
-    }
-    let b = readers::line_number(src, a.next, b"places=", 4096);
-    if b.code != 0 {
-        return HeadLines {
-            code: b.code,
-            at: 2,
-            next: 0,
-            places: 0,
-        };
-    }
-    HeadLines {
-        code: 0,
-        at: 0,
-        next: b.next,
-        places: b.value as usize,
-    }
-}
-
-// A query whose line `at` is refused.
-fn no_query(code: u8, at: usize) -> QueryLines
-    ensures { result ≡ record { code = code; at = at; next = 0; want = 0; budget = 0 } }
-{
-    QueryLines {
-        code: code,
-        at: at,
-        next: 0,
-        want: 0,
-        budget: 0,
-    }
+    let sheet = readers::line_word(src, at, 1, b"sheet=", b"1")?;
+    let places = readers::line_number(src, sheet.next, 2, b"places=", 4096)?;
+    Ok(Line {
+        next: places.next,
+        value: places.value as usize,
+    })
 }
 
 // Internal: the query, whose first line is number `line` and begins at `at`.
-pub fn query_at(src: &[u8], at: usize, line: usize) -> QueryLines
+pub fn query_at(src: &[u8], at: usize, line: usize) -> Result<Line<Query>, Refusal>
     requires { (at ≤ length src.now) × (line ≤ 16390) }
-    ensures { Read src.now (query_part.read line (drop at src.now)) 0 (0, 0) result.code result.at result.next (result.want, result.budget) }
+    ensures { ReadsAs pair src.now (query_part.read line (drop at src.now)) result }
 {
-    let a = readers::line_bits(src, at, b"want=");
-    if a.code != 0 {
-        return no_query(a.code, line);
-    }
-    let b = readers::line_number(src, a.next, b"budget=", 4294967295);
-    if b.code != 0 {
-        return no_query(b.code, line + 1);
-    }
-    let c = readers::line_word(src, b.next, b"end=", b"sheet");
-    if c.code != 0 {
-        return no_query(c.code, line + 2);
-    }
-    QueryLines {
-        code: 0,
-        at: 0,
-        next: c.next,
-        want: a.value,
-        budget: b.value as u32,
-    }
-}
-
-// A place whose line `at` is refused.
-fn no_place(code: u8, at: usize) -> PlaceLines
-    ensures { result ≡ record { code = code; at = at; next = 0; x = pos 0; y = pos 0; kit = 0 } }
-{
-    PlaceLines {
-        code: code,
-        at: at,
-        next: 0,
-        x: 0,
-        y: 0,
-        kit: 0,
-    }
-}
-
-// A place whose lines were read in one go. Where `ok` is false the rest says nothing, and no fault is found.
-#[derive(Drop)]
-struct QuickPlace {
-    ok: bool,
-    next: usize,
-    x: i32,
-    y: i32,
-    kit: u64,
-}
-
-fn not_quick() -> QuickPlace
-    ensures { result.ok ≡ false }
-{
-    QuickPlace {
-        ok: false,
-        next: 0,
-        x: 0,
-        y: 0,
-        kit: 0,
-    }
+    let want = readers::line_bits(src, at, line, b"want=")?;
+    let budget = readers::line_number(src, want.next, line + 1, b"budget=", u32::MAX)?;
+    let end = readers::line_word(src, budget.next, line + 2, b"end=", b"sheet")?;
+    Ok(Line {
+        next: end.next,
+        value: Query {
+            want: want.value,
+            budget: budget.value,
+        },
+    })
 }
 
 // Place i, whose lines begin at `at`, if they are read in one go: nearly all are.
-fn quick_place(src: &[u8], at: usize, i: usize) -> QuickPlace
+fn quick_place(src: &[u8], at: usize, i: usize) -> Option<Line<Place>>
     requires { (at ≤ length src.now) × (i < 4096) }
-    ensures { result.ok ≡ true → PlaceReads src.now at i result.next (result.x, (result.y, result.kit)) }
+    ensures { IfSome result (λ l. PlaceReads src.now at i l.next (row l.value)) }
 {
-    let a = quick::quick_number(&src[at..], b"place=", 4095);
-    if !a.ok {
-        return not_quick();
+    let number = quick::quick_number(&src[at..], b"place=", 4095)?;
+    if number.value as usize != i {
+        return None;
     }
-    if a.value != i as u64 {
-        return not_quick();
-    }
-    let east = at + a.count;
-    let b = quick::quick_coordinate(&src[east..], b"x=");
-    if !b.ok {
-        return not_quick();
-    }
-    let north = east + b.count;
-    let c = quick::quick_coordinate(&src[north..], b"y=");
-    if !c.ok {
-        return not_quick();
-    }
-    let word = north + c.count;
-    let d = quick::quick_bits(&src[word..], b"kit=");
-    if !d.ok {
-        return not_quick();
-    }
-    QuickPlace {
-        ok: true,
-        next: word + d.count,
-        x: b.value,
-        y: c.value,
-        kit: d.value,
-    }
+    let east = at + number.count;
+    let x = quick::quick_coordinate(&src[east..], b"x=")?;
+    let north = east + x.count;
+    let y = quick::quick_coordinate(&src[north..], b"y=")?;
+    let word = north + y.count;
+    let kit = quick::quick_bits(&src[word..], b"kit=")?;
+    Some(Line {
+        next: word + kit.count,
+        value: Place {
+            x: x.value,
+            y: y.value,
+            kit: kit.value,
+        },
+    })
 }
 
 // The same, line by line: what is refused, and where.
-fn careful_place(src: &[u8], at: usize, i: usize, line: usize) -> PlaceLines
+fn careful_place(src: &[u8], at: usize, i: usize, line: usize) -> Result<Line<Place>, Refusal>
     requires { (at ≤ length src.now) × ((i < 4096) × (line ≤ 16390)) }
-    ensures { Read src.now ((place_part i).read line (drop at src.now)) 0 (pos 0, (pos 0, 0)) result.code result.at result.next (result.x, (result.y, result.kit)) }
+    ensures { ReadsAs row src.now ((place_part i).read line (drop at src.now)) result }
 {
-    let a = readers::line_number(src, at, b"place=", 4095);
-    if a.code != 0 {
-        return no_place(a.code, line);
+    let number = readers::line_number(src, at, line, b"place=", 4095)?;
+    if number.value as usize != i {
+        let fault = Fault::OutOfForm;
+        return Err(Refusal { fault, line });
     }
-    if a.value != i as u64 {
-        return no_place(52, line);
-    }
-    let b = readers::line_coordinate(src, a.next, b"x=");
-    if b.code != 0 {
-        return no_place(b.code, line + 1);
-    }
-    let c = readers::line_coordinate(src, b.next, b"y=");
-    if c.code != 0 {
-        return no_place(c.code, line + 2);
-    }
-    let d = readers::line_bits(src, c.next, b"kit=");
-    if d.code != 0 {
-        return no_place(d.code, line + 3);
-    }
-    PlaceLines {
-        code: 0,
-        at: 0,
-        next: d.next,
-        x: b.value,
-        y: c.value,
-        kit: d.value,
-    }
+    let x = readers::line_coordinate(src, number.next, line + 1, b"x=")?;
+    let y = readers::line_coordinate(src, x.next, line + 2, b"y=")?;
+    let kit = readers::line_bits(src, y.next, line + 3, b"kit=")?;
+    Ok(Line {
+        next: kit.next,
+        value: Place {
+            x: x.value,
+            y: y.value,
+            kit: kit.value,
+        },
+    })
 }
 
 // Internal: place i, whose first line is number `line` and begins at `at`.
-pub fn place_at(src: &[u8], at: usize, i: usize, line: usize) -> PlaceLines
+pub fn place_at(src: &[u8], at: usize, i: usize, line: usize) -> Result<Line<Place>, Refusal>
     requires { (at ≤ length src.now) × ((i < 4096) × (line ≤ 16390)) }
-    ensures { Read src.now ((place_part i).read line (drop at src.now)) 0 (pos 0, (pos 0, 0)) result.code result.at result.next (result.x, (result.y, result.kit)) }
+    ensures { ReadsAs row src.now ((place_part i).read line (drop at src.now)) result }
 {
-    let q = quick_place(src, at, i);
-    if !q.ok {
-        return careful_place(src, at, i, line);
-    }
-    PlaceLines {
-        code: 0,
-        at: 0,
-        next: q.next,
-        x: q.x,
-        y: q.y,
-        kit: q.kit,
+    match quick_place(src, at, i) {
+        Some(place) => Ok(place),
+        None => careful_place(src, at, i, line),
     }
 }

@@ -1,2 +1,2 @@
--- Laws of the pieces of a place sheet, as they are written.
-pub mod PutLaws
+-- Laws of the lines of a place sheet.
+pub mod PlaceLaws

@@ -3,6 +3,7 @@ pub mod WholeLaws
 pub mod GapLaws
 pub mod JoinLaws
 pub mod BoxLaws
+pub mod SameLaws
 pub mod RunLaws
 pub mod RootLaws
 pub mod SignedLaws

@@ -27,20 +27,3 @@ pub joined_same : {A : Type 0} (op : A → A → A) (f g : ℕ → A) (from k : 
 unfolding joined
 joined_same op f g from zero h = h from (omega arith) (omega arith)
 joined_same op f g from (suc k) h = ap₂ op (joined_same op f g from k (λ i a b. h i a (omega arith))) (h (from + suc k) (omega arith) (omega arith))
-
--- what a loop has that joins a run of `count`: the first k + 1 of it
-pub record Joining {A : Type 0} (op : A → A → A) (f : ℕ → A) (from count : ℕ) (so_far : A) (k : ℕ) : Type 0 where
-  pub within : k < count
-  pub is : so_far ≡ joined op f from k
-
-module _ {A : Type 0} (op : A → A → A) (f : ℕ → A) (from count : ℕ) where
-  pub join_first : {so_far : A} → so_far ≡ f from → 1 ≤ count → Joining op f from count so_far 0
-  unfolding joined
-  join_first e l = record { within = l; is = e }
-
-  pub join_more : {so_far next : A} {k : ℕ} → Joining op f from count so_far k → k + 1 < count → next ≡ op so_far (f (from + (k + 1))) → Joining op f from count next (k + 1)
-  unfolding joined
-  join_more {so_far} {next} {k} h l e = record { within = l; is = e ∙ rw (add-one k) (ap (λ (a : A). op a (f (from + suc k))) h.is) }
-
-  pub join_all : (so_far : A) (k : ℕ) → Joining op f from count so_far k → count ≤ k + 1 → so_far ≡ joined op f from (count - 1)
-  join_all so_far k h l = let last : k ≡ count - 1 = omega (arith, h.within) in h.is ∙ ap (joined op f from) last

@@ -1,7 +1,7 @@
 -- Integers as `omega` can read them: z is `up z` less `down z`, so that an order or a difference of integers is one of naturals.
 -- Assumes nothing.
 use mathlib.Core.Path.{◌≡◌, refl, ap, sym}
-use mathlib.Core.Bool.{Bool, true, false, cond, ◌||◌}
+use mathlib.Core.Bool.{Bool, true, false, cond, not, ◌&&◌, ◌||◌}
 use Prim.Native.Nat.{ℕ, zero, suc, ◌+◌, ◌-◌, ◌*◌, ◌≤◌, ◌<◌}
 use native.Mathlib.Nat.{le_trans, mul-le-mul_left, mul-le-mul_right}
 use native.Mathlib.Omega.{arith}
@@ -9,7 +9,10 @@ use lib.Dec.{T, ltb, leb→le, le→leb}
 use borrow.Author.Tests.{ltb-true, ltb-false}
 use lib.IntN.{ℤ, pos, negsuc, nat_abs, sub_ℕ, ◌+ℤ◌, ◌-ℤ◌, ◌*ℤ◌}
 use lib.Signed.{non_neg, lt_z, ◌≤ℤ◌, le_z_yes}
-use Rattle.plane.specs.Plane.{rise, outside}
+use Rattle.std.specs.Int.{int_max}
+use Rattle.std.specs.Ordering.{int_cmp, is_le}
+use Rattle.std.proofs.Common.{Less, Equal, Greater}
+use Rattle.plane.specs.Plane.{rise, outside, greatest}
 
 pub false_not_true : false ≡ true → ⊥
 false_not_true e = let z : ◌≡◌ {A = ℕ} 0 1 = cc in omega arith
@@ -57,6 +60,26 @@ lt_false (pos a) (pos b) e = omega (arith, ltb-false a b e)
 lt_false (pos a) (negsuc b) e = omega arith
 lt_false (negsuc a) (pos b) e = absurd (false_not_true (sym e))
 lt_false (negsuc a) (negsuc b) e = omega (arith, ltb-false b a e)
+
+-- the library's order and its greater of two, by the test of two
+at_most : (a b : ℤ) → is_le (int_cmp a b) ≡ not (lt_z b a)
+at_most a b = go (lt_z a b) (lt_z b a) refl refl
+  where
+    go : (s t : Bool) → lt_z a b ≡ s → lt_z b a ≡ t → is_le (cond s Less (cond t Greater Equal)) ≡ not t
+    go true true d e = absurd (omega (arith, lt_true a b d, lt_true b a e))
+    go true false d e = refl
+    go false true d e = refl
+    go false false d e = refl
+
+pub max_is : (a b : ℤ) → int_max a b ≡ greatest a b
+unfolding greatest
+max_is a b = go (lt_z a b) (lt_z b a) refl refl
+  where
+    go : (s t : Bool) → lt_z a b ≡ s → lt_z b a ≡ t → cond t a b ≡ cond s b a
+    go true true d e = absurd (omega (arith, lt_true a b d, lt_true b a e))
+    go true false d e = refl
+    go false true d e = refl
+    go false false d e = le_antisym b a (lt_false a b d) (lt_false b a e)
 
 -- a difference, and its size
 sub_parts : (a b : ℕ) → (up (sub_ℕ a b) ≡ a - b) × (down (sub_ℕ a b) ≡ b - a)
@@ -117,6 +140,15 @@ or_left false t e = refl
 pub or_right : (s t : Bool) → (s || t) ≡ false → t ≡ false
 or_right true t e = absurd (false_not_true (sym e))
 or_right false t e = e
+
+neither : (s t : Bool) → not (not s && not t) ≡ (s || t)
+neither true t = refl
+neither false true = refl
+neither false false = refl
+
+pub range_test : (z : ℤ) → not (is_le (int_cmp (negsuc 999999) z) && is_le (int_cmp z (pos 1000000))) ≡ outside z
+unfolding outside
+range_test z = rw (at_most (negsuc 999999) z, at_most z (pos 1000000)) (neither (lt_z z (negsuc 999999)) (lt_z (pos 1000000) z))
 
 bounds : (z : ℤ) → Le (negsuc 999999) z → Le z (pos 1000000) → up z + down z ≤ 1000000
 bounds (pos n) h k = omega arith

@@ -1,10 +1,11 @@
 -- Coordinates, points, spans and boxes: how far apart they are, and the tightest around two.
 -- Assumes nothing.
-use Rattle.std.specs.Prelude.{◌≡◌, Bool, false, cond, ◌||◌, ℕ, ◌+◌, ◌*◌, ℤ, pos, negsuc, nat_abs, ◌+ℤ◌, ◌-ℤ◌, ◌*ℤ◌, ◌≤ℤ◌}
+use Rattle.std.specs.Prelude.{◌≡◌, Bool, false, cond, ◌||◌, ℕ, ◌+◌, ◌*◌, ℤ, pos, negsuc, nat_abs, ◌+ℤ◌, ◌-ℤ◌, ◌*ℤ◌, ◌≤ℤ◌, Result, Ok, Err}
 use Rattle.std.specs.Int.Signed.{lt_z}
 use Rattle.plane.specs.declared.Span.{Span}
 use Rattle.plane.specs.declared.Box.{Box}
-use Rattle.plane.specs.declared.Measured.{Measured}
+use Rattle.verdict.specs.Numbers.{number}
+use Rattle.verdict.specs.declared.Refusal.{Refusal}
 
 -- a coordinate is out of range: below -1,000,000 or above 1,000,000
 unfoldable pub outside : ℤ → Bool
@@ -14,7 +15,13 @@ outside z = lt_z z (negsuc 999999) || lt_z (pos 1000000) z
 unfoldable pub squared_of : ℤ → ℤ → ℤ → ℤ → ℕ
 squared_of ax ay bx by = nat_abs ((ax -ℤ bx) *ℤ (ax -ℤ bx) +ℤ (ay -ℤ by) *ℤ (ay -ℤ by))
 
--- what the call on two points gives: 12 at the first that is out of range, else their squared distance
+-- what the call on two points says: a refusal's number and where, or the squared distance
+pub record Measured : Type 0 where
+  pub code : ℕ
+  pub at : ℕ
+  pub squared : ℕ
+
+-- 12 at the first that is out of range, else their squared distance
 abbrev pub answer : ℕ → ℕ → ℕ → Measured
 answer code at squared = record { code = code; at = at; squared = squared }
 
@@ -23,6 +30,11 @@ measured ax ay bx by =
     cond (outside ax || outside ay) (answer 12 0 0)
     (cond (outside bx || outside by) (answer 12 1 0)
     (answer 0 0 (squared_of ax ay bx by)))
+
+-- the same of its result
+abbrev pub told : Result ℕ Refusal → Measured
+told (Ok squared) = answer 0 0 squared
+told (Err r) = answer (number r.reason) r.at 0
 
 -- the span from lo to hi, and the box of two spans
 abbrev pub span : ℤ → ℤ → Span

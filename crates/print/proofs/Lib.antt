@@ -2,3 +2,4 @@
 pub mod PutLaws
 pub mod LeftLaws
 pub mod SignLaws
+pub mod WroteLaws

@@ -1,53 +1,20 @@
 -- One text put after another is the two as one; the digits that `io` makes are a number's text.
 -- Assumes nothing.
-use Prim.Native.Nat.{ℕ, ◌+◌, ◌-◌, ◌^◌, ◌≤◌, ◌<◌}
-use mathlib.Core.Path.{◌≡◌, ap, ap₂, sym, ◌∙◌, subst}
+use Prim.Native.Nat.{ℕ, ◌+◌, ◌^◌, ◌≤◌, ◌<◌}
+use mathlib.Core.Path.{◌≡◌, ap, ap₂, sym, ◌∙◌}
 use mathlib.Core.List.{List, ◌++◌, append_assoc}
-use native.Mathlib.Numerals.{add-one}
-use native.Mathlib.Nat.{pow-le-pow_right}
-use native.Mathlib.Decide.{dec_le}
 use native.Mathlib.Omega.{arith}
-use lib.ListN.{length, take, drop, get_or, set, length-append, length-drop}
-use lib.Seq.{paste, paste-zero, paste-suc, length-paste, take_all, take_at, drop-append-add, drop-drop, length-take-le}
+use lib.ListN.{length, take, drop, length-append, length-drop}
+use lib.Seq.{take_at, drop-append-add, drop-drop, length-take-le}
 use Rattle.io.specs.Digits.{last_digits, IsDigitCount}
 use Rattle.lines.specs.Text.{decimal, hex, width}
 use Rattle.lines.proofs.NumberLaws.{width_fewest, fewest_unique}
 use Rattle.print.specs.Puts.{Puts}
 
--- ---- the loop that copies
-pub record Pasted (d : List ℕ) (at : ℕ) (s : List ℕ) (i : ℕ) (out : List ℕ) : Type 0 where
-  pub within : i ≤ length s
-  pub is : out ≡ paste d at s i
-
-pub pasted_none : (d : List ℕ) (at : ℕ) (s : List ℕ) → Pasted d at s 0 d
-pasted_none d at s = record { within = omega arith; is = paste-zero d at s }
-
-module _ (d : List ℕ) (at : ℕ) (s : List ℕ) (i : ℕ) (out : List ℕ) (fits : at + length s ≤ length d) (p : Pasted d at s i out) where
-  pub pasted_length : length out ≡ length d
-  pasted_length = ap length p.is ∙ length-paste d at s i (omega (arith, p.within)) p.within
-
-  pub pasted_more : i < length s → Pasted d at s (i + 1) (set out (at + i) (get_or s i 0))
-  pasted_more h = record {
-    within = omega arith;
-    is = ap (λ (l : List ℕ). set l (at + i) (get_or s i 0)) p.is ∙ paste-suc d at s i 0 (omega arith) h ∙ ap (paste d at s) (sym (add-one i));
-  }
-
-  pub pasted_all : length s ≤ i → Puts d at s (at + i) out
-  pasted_all h =
-      let e : i ≡ length s = omega (arith, p.within) in
-      record { end = ap (λ (n : ℕ). at + n) e; bytes = p.is ∙ ap₂ (λ (t : List ℕ) (n : ℕ). take at d ++ t ++ drop (at + n) d) (take_all i s h) e }
-
 -- ---- one text after another
 module _ {o : List ℕ} {at : ℕ} {t : List ℕ} {r : ℕ} {o₁ : List ℕ} (u : List ℕ) (fits : at + length (t ++ u) ≤ length o) (p : Puts o at t r o₁) where
   before : length (take at o ++ t) ≡ at + length t
   before = length-append (take at o) t ∙ omega (arith, length-take-le at o (omega arith), length-append t u)
-
-  pub puts_length : length o₁ ≡ length o
-  puts_length = ap length p.bytes ∙ length-append (take at o ++ t) (drop (at + length t) o) ∙ omega (arith, before, length-drop (at + length t) o, length-append t u)
-
-  -- what follows has room behind the text
-  pub room_after : r + length u ≤ length o₁
-  room_after = omega (arith, puts_length, p.end, length-append t u)
 
   pub puts_then : {r₂ : ℕ} {o₂ : List ℕ} → Puts o₁ r u r₂ o₂ → Puts o at (t ++ u) r₂ o₂
   puts_then q =
@@ -64,17 +31,9 @@ module _ {o : List ℕ} {at : ℕ} {t : List ℕ} {r : ℕ} {o₁ : List ℕ} (u
         bytes = q.bytes ∙ ap₂ (λ (x y : List ℕ). x ++ u ++ y) head tail ∙ ap (λ (x : List ℕ). x ++ drop (at + length (t ++ u)) o) (append_assoc (take at o) t u);
       }
 
--- the first of two texts has room where both have
-pub room_first : (t u : List ℕ) (n m : ℕ) → n + length (t ++ u) ≤ m → n + length t ≤ m
-room_first t u n m h = omega (arith, length-append t u)
-
--- the same by the text's name
-pub puts_text : {o : List ℕ} {at : ℕ} {t u : List ℕ} {r : ℕ} {o' : List ℕ} → t ≡ u → Puts o at t r o' → Puts o at u r o'
-puts_text {o} {at} {r = r} {o' = o'} e p = subst (λ (t : List ℕ). Puts o at t r o') e p
-
--- what stands at the start of a list
-pub puts_first : {o t : List ℕ} {r : ℕ} {o' : List ℕ} → Puts o 0 t r o' → take r o' ≡ t
-puts_first {o} {t} {r} p = ap (take r) p.bytes ∙ take_at t (drop (0 + length t) o) r (omega (arith, p.end))
+-- a buffer keeps its length
+pub puts_long : {o : List ℕ} {at : ℕ} {t : List ℕ} {r : ℕ} {o' : List ℕ} → at + length t ≤ length o → Puts o at t r o' → length o' ≡ length o
+puts_long {o} {at} {t} fits p = ap length p.bytes ∙ simp (length-append, length-drop) (omega (arith, length-take-le at o (omega arith)))
 
 -- ---- the digits of a number
 pub width_made : (n k : ℕ) → n < 2 ^ 64 → IsDigitCount 10 1 n k → k ≡ width n
@@ -84,10 +43,6 @@ pub decimal_made : (n k : ℕ) → n < 2 ^ 64 → IsDigitCount 10 1 n k → last
 unfolding decimal
 decimal_made n k h f = ap (λ (m : ℕ). last_digits 10 m n) (width_made n k h f)
 
-pub hex_made : (n k : ℕ) → n < 2 ^ 64 → IsDigitCount 16 16 n k → last_digits 16 k n ≡ hex n
+pub hex_made : (n k : ℕ) → k ≤ 16 → IsDigitCount 16 16 n k → last_digits 16 k n ≡ hex n
 unfolding hex
-hex_made n k h f = ap (λ (m : ℕ). last_digits 16 m n) (go (dec_le k 16))
-  where
-    go : Dec (k ≤ 16) → k ≡ 16
-    go (yes l) = omega (arith, f.0)
-    go (no l) = absurd (omega (arith, f.2 (omega arith), pow-le-pow_right {n = 16} (omega arith) {i = 16} {j = k - 1} (omega arith)))
+hex_made n k h f = ap (λ (m : ℕ). last_digits 16 m n) (let e : k ≡ 16 = omega (arith, f.0) in e)

@@ -1,120 +1,113 @@
 // Text written into a lent buffer that has room for it: words, numbers, and lines of a key and a value.
 #![tactic(auto)]
 
-ghost use Rattle.std.specs.Prelude.{◌≡◌, ◌+◌, ◌≤◌, nat_abs, length};
-ghost use Rattle.lines.specs.Text.{decimal, hex, signed, width};
-ghost use Rattle.print.specs.Puts.{Puts, line_of};
+ghost use Rattle.std.specs.Prelude.{◌≡◌, List, ℕ, length};
+ghost use Rattle.lines.specs.Text.{decimal, hex, signed};
+ghost use Rattle.print.specs.Puts.{line_of};
+ghost use Rattle.print.specs.Wrote.{HasRoom, Wrote};
 
-// Internal: a text at a place; gives the place after it.
-pub fn put(out: &mut [u8], at: usize, text: &[u8]) -> usize
-    requires { at + length text.now ≤ length out.old }
-    ensures { Puts out.old at text.now result out.new }
-{
-    let mut i = 0;
-    while i < text.len() {
-        out[at + i] = text[i];
-        i += 1;
+// Internal: a lent buffer that is written from the start on, and how far it is.
+#[derive(Drop)]
+pub struct Page<'a> {
+    pub out: &'a mut [u8],
+    pub at: usize,
+}
+
+impl<'a> Page<'a> {
+    // Internal: a text after what is written.
+    pub fn put(&mut self, text: &[u8])
+        requires { HasRoom self.old text.now }
+        ensures { Wrote self.old text.now self.new }
+    {
+        let end = self.at + text.len();
+        let out = &mut *self.out;
+        out[self.at..end].copy_from_slice(text);
+        self.at = end;
     }
-    at + i
-}
 
-// Internal: a number in decimal.
-pub fn put_decimal(out: &mut [u8], at: usize, n: u64) -> usize
-    requires { at + length (decimal n) ≤ length out.old }
-    ensures { Puts out.old at (decimal n) result out.new }
-{
-    let mut text = [0u8; 20];
-    let k = io::decimal(n, &mut text);
-    put(out, at, &text[..k])
-}
-
-// Internal: 64 bits in hexadecimal.
-pub fn put_hex(out: &mut [u8], at: usize, n: u64) -> usize
-    requires { at + length (hex n) ≤ length out.old }
-    ensures { Puts out.old at (hex n) result out.new }
-{
-    let mut text = [0u8; 16];
-    let k = io::hex(n, 16, &mut text);
-    put(out, at, &text[..k])
-}
-
-// A number without its sign.
-fn magnitude(z: i32) -> u64
-    ensures { result ≡ nat_abs z }
-{
-    if z < 0 {
-        (0 - z as i64) as u64
-    } else {
-        z as u64
+    // Internal: a line with a key and a value.
+    pub fn put_line<V: Value>(&mut self, key: &[u8], value: V)
+        requires { HasRoom self.old (line_of key.now (V.text value)) }
+        ensures { Wrote self.old (line_of key.now (V.text value)) self.new }
+    {
+        self.put(key);
+        value.put(self);
+        self.put(b"\n");
     }
 }
 
-// Internal: a number with a minus where it is below 0.
-pub fn put_signed(out: &mut [u8], at: usize, z: i32) -> usize
-    requires { at + length (signed z) ≤ length out.old }
-    ensures { Puts out.old at (signed z) result out.new }
-{
-    if z < 0 {
-        let a = put(out, at, b"-");
-        return put_decimal(out, a, magnitude(z));
+// Internal: what stands on a line after its key.
+pub trait Value {
+    ghost text: { Self → List ℕ };
+
+    // Internal: its text after what is written.
+    fn put(self, page: &mut Page<'_>)
+        requires { HasRoom page.old (text self) }
+        ensures { Wrote page.old (text self) page.new };
+}
+
+// Internal: a value whose text has as many bytes as the number is long.
+pub trait Number: Value {
+    // Internal: how many bytes its text has.
+    fn width(self) -> usize
+        ensures { result ≡ length (Self.text self) };
+}
+
+// A word as it is.
+impl<'a> Value for &'a [u8] {
+    ghost text = { λ word. word.now };
+
+    fn put(self, page: &mut Page<'_>) {
+        page.put(self);
     }
-    put_decimal(out, at, magnitude(z))
 }
 
-// Internal: how many decimal digits a number has.
-pub fn width_of(n: u64) -> usize
-    ensures { result ≡ width n }
-{
-    let mut text = [0u8; 20];
-    io::decimal(n, &mut text)
-}
+// A number in decimal.
+impl Value for u64 {
+    ghost text = { decimal };
 
-// Internal: how many bytes a number has with its sign.
-pub fn signed_width_of(z: i32) -> usize
-    ensures { result ≡ length (signed z) }
-{
-    if z < 0 {
-        return 1 + width_of(magnitude(z));
+    fn put(self, page: &mut Page<'_>) {
+        let mut text = [0u8; 20];
+        let k = io::decimal(self, &mut text);
+        page.put(&text[..k]);
     }
-    width_of(magnitude(z))
 }
 
-// Internal: a line with a key and a word.
-pub fn put_word_line(out: &mut [u8], at: usize, key: &[u8], word: &[u8]) -> usize
-    requires { at + length (line_of key.now word.now) ≤ length out.old }
-    ensures { Puts out.old at (line_of key.now word.now) result out.new }
-{
-    let a = put(out, at, key);
-    let b = put(out, a, word);
-    put(out, b, b"\n")
+impl Number for u64 {
+    fn width(self) -> usize {
+        let mut text = [0u8; 20];
+        io::decimal(self, &mut text)
+    }
 }
 
-// Internal: a line with a key and a decimal number.
-pub fn put_number_line(out: &mut [u8], at: usize, key: &[u8], n: u64) -> usize
-    requires { at + length (line_of key.now (decimal n)) ≤ length out.old }
-    ensures { Puts out.old at (line_of key.now (decimal n)) result out.new }
-{
-    let mut text = [0u8; 20];
-    let k = io::decimal(n, &mut text);
-    put_word_line(out, at, key, &text[..k])
+// A number with a minus where it is below 0.
+impl Value for i32 {
+    ghost text = { signed };
+
+    fn put(self, page: &mut Page<'_>) {
+        if self < 0 {
+            page.put(b"-");
+        }
+        u64::from(self.unsigned_abs()).put(page);
+    }
 }
 
-// Internal: a line with a key and 64 bits in hexadecimal.
-pub fn put_bits_line(out: &mut [u8], at: usize, key: &[u8], n: u64) -> usize
-    requires { at + length (line_of key.now (hex n)) ≤ length out.old }
-    ensures { Puts out.old at (line_of key.now (hex n)) result out.new }
-{
-    let mut text = [0u8; 16];
-    let k = io::hex(n, 16, &mut text);
-    put_word_line(out, at, key, &text[..k])
+impl Number for i32 {
+    fn width(self) -> usize {
+        usize::from(self < 0) + u64::from(self.unsigned_abs()).width()
+    }
 }
 
-// Internal: a line with a key and a number with its sign.
-pub fn put_signed_line(out: &mut [u8], at: usize, key: &[u8], z: i32) -> usize
-    requires { at + length (line_of key.now (signed z)) ≤ length out.old }
-    ensures { Puts out.old at (line_of key.now (signed z)) result out.new }
-{
-    let a = put(out, at, key);
-    let b = put_signed(out, a, z);
-    put(out, b, b"\n")
+// Internal: 64 bits, which are shown in hexadecimal.
+#[derive(Clone, Copy)]
+pub struct Bits(pub u64);
+
+impl Value for Bits {
+    ghost text = { λ bits. hex bits.0 };
+
+    fn put(self, page: &mut Page<'_>) {
+        let mut text = [0u8; 16];
+        let k = io::hex(self.0, 16, &mut text);
+        page.put(&text[..k]);
+    }
 }

@@ -9,8 +9,7 @@ use native.Mathlib.Omega.{arith}
 use lib.IntN.{ℤ}
 use lib.ListN.{length, get_or}
 use Rattle.plane.specs.Root.{Root}
-use Rattle.verdict.specs.Rules.{Rule, AllHold, verdict, says}
-use Rattle.verdict.specs.declared.Verdict.{Verdict}
+use Rattle.verdict.specs.Rules.{Rule, AllHold, verdict, says, Verdict}
 use Rattle.verdict.proofs.RuleLaws.{code_zero, none_broken, all_hold}
 use Rattle.kit.specs.Kit.{held, kinds, padded}
 use Rattle.kit.proofs.KindLaws.{kinds_member, kinds_ascending}

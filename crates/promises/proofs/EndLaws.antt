@@ -10,8 +10,7 @@ use Prim.Native.Nat.{ℕ, ◌≤◌, ◌<◌}
 use native.Mathlib.Decide.{dec_lt, ℕ_discrete}
 use native.Mathlib.Omega.{arith}
 use lib.ListN.{length, take}
-use Rattle.verdict.specs.Rules.{AllHold, verdict}
-use Rattle.verdict.specs.declared.Verdict.{Verdict}
+use Rattle.verdict.specs.Rules.{AllHold, verdict, Verdict}
 use Rattle.verdict.proofs.RuleLaws.{none_broken}
 use Rattle.kit.specs.Kit.{kinds}
 use Rattle.table.specs.Table.{Table}

@@ -6,6 +6,7 @@ pub mod ReadLaws
 pub mod PrintLaws
 pub mod OneLaws
 pub mod Demands
+mod SaidLaws
 pub mod Unique
 pub mod UniqueWithin
 pub mod UniqueReader

@@ -6,8 +6,7 @@ use Prim.Native.Nat.{ℕ, ◌≤◌, ◌<◌}
 use native.Mathlib.Decide.{dec_le, ℕ_discrete}
 use native.Mathlib.Omega.{arith}
 use lib.ListN.{length}
-use Rattle.verdict.specs.Rules.{verdict, says}
-use Rattle.verdict.specs.declared.Verdict.{Verdict}
+use Rattle.verdict.specs.Rules.{verdict, says, Verdict}
 use Rattle.verdict.proofs.RuleLaws.{none_broken, stops, goes_on}
 use Rattle.table.specs.Table.{places, table_rules, Valid}
 use Rattle.lines.specs.Part.{Outcome, fault, accepted}

@@ -7,8 +7,7 @@ use Prim.Native.Nat.{ℕ, ◌+◌, ◌≤◌, ◌<◌}
 use native.Mathlib.Decide.{dec_lt}
 use native.Mathlib.Omega.{arith}
 use lib.Dec.{T, leb, leb→le}
-use Rattle.verdict.specs.Rules.{Rule, lowest, verdict, says}
-use Rattle.verdict.specs.declared.Verdict.{Verdict}
+use Rattle.verdict.specs.Rules.{Rule, lowest, verdict, says, Verdict}
 use Rattle.verdict.proofs.FirstLaws.{first_found, first_all}
 use Rattle.verdict.proofs.RuleLaws.{broken, held}
 use Rattle.lines.proofs.PartLaws.{both}

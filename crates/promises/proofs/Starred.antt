@@ -7,12 +7,10 @@ use mathlib.Core.List.{List, [], ◌∷◌, map}
 use Prim.Native.Nat.{ℕ}
 use native.Mathlib.Decide.{dec_le, dec_lt, ℕ_discrete}
 use lib.IntN.{pos, negsuc}
-use Rattle.plane.specs.Plane.{outside, squared_of, measured, answer, rise, least, greatest}
+use Rattle.plane.specs.Plane.{outside, squared_of, measured, answer, rise, least, greatest, Measured}
 use Rattle.plane.specs.Run.{joined}
-use Rattle.plane.specs.declared.Measured.{Measured}
 use Rattle.verdict.specs.First.{first_not, dec_all}
-use Rattle.verdict.specs.Rules.{lowest, verdict, says}
-use Rattle.verdict.specs.declared.Verdict.{Verdict}
+use Rattle.verdict.specs.Rules.{lowest, verdict, says, Verdict}
 use Rattle.kit.specs.Kit.{kinds, kinds_from, all_held, padded}
 use Rattle.table.specs.Table.{Table, table, table_rules, dec_even, dec_in_range, dec_ranged}
 use Rattle.order.specs.Tab.{tab}

@@ -4,16 +4,16 @@ use mathlib.Core.Path.{◌≡◌, refl, sym, ap, ap₂, ◌∙◌}
 use mathlib.Core.List.{List}
 use Prim.Native.Nat.{ℕ}
 use lib.IntN.{ℤ}
-use denote.MutBor.{MutBor}
 use Rattle.plane.proofs.RootLaws.{root_unique}
 use Rattle.table.specs.Table.{table}
 use Rattle.tree.specs.Tree.{Tree}
-use Rattle.tree.specs.Lent.{shape, sides, tree}
-use Rattle.verdict.specs.declared.Verdict.{Verdict}
-use Rattle.verdict.specs.Rules.{says}
+use Rattle.tree.specs.Lent.{shape, tree}
+use Rattle.verdict.specs.Rules.{Verdict, said}
+use Rattle.build.specs.Lent.{lent, left}
 use Rattle.build.specs.Room as build-specs
-use Rattle.rows.specs.Sheet.{Held, asked}
+use Rattle.rows.specs.Sheet.{asked}
 use Rattle.sheet.specs.Write as write-specs
+use Rattle.promises.proofs.SaidLaws.{told_one, check_one, built_one, written_one}
 use Rattle.plane.proofs.squared.Reads as squared
 use Rattle.plane.proofs.root.Reads as root
 use Rattle.verdict.proofs.family.Reads as family
@@ -34,7 +34,7 @@ pub squared_total : AsksNothing squared.Pre
 squared_total κs a = tt
 
 pub squared_settled : Settles nothing squared.Post
-squared_settled κs a r r' b b' h k = (h ∙ sym k, refl)
+squared_settled κs a r r' b b' h k = (told_one r r' (h ∙ sym k), refl)
 
 -- the whole-number root
 pub root_total : AsksNothing root.Pre
@@ -55,7 +55,7 @@ pub check_total : AsksNothing check.Pre
 check_total κs a = tt
 
 pub check_settled : Settles nothing check.Post
-check_settled κs a r r' b b' h k = (h ∙ sym k, refl)
+check_settled κs a r r' b b' h k = (check_one r r' (h ∙ sym k), refl)
 
 -- the search
 pub search_total : AsksNothing search.Pre
@@ -65,22 +65,14 @@ pub search_settled : Settles nothing search.Post
 search_settled κs a r r' b b' h k = (h ∙ sym k, refl)
 
 -- the builder: nine columns are lent, which a tree collects
-abbrev pub Ref : Type 0 → Type 0
-Ref X = MutBor (List X)
-
-abbrev pub columns : Ref ℕ × (Ref ℕ × (Ref ℕ × (Ref ℤ × (Ref ℤ × (Ref ℤ × (Ref ℤ × (Ref ℕ × (Ref ℕ × Unit {0})))))))) → Tree
-columns (level, (start, (count, (x_lo, (x_hi, (y_lo, (y_hi, (kits, (entries, _))))))))) =
-    tree (shape 0 0 level.now start.now count.now entries.now) (sides x_lo.now x_hi.now y_lo.now y_hi.now) kits.now
-
 pub build_total : AsksNothing build.Pre
 build_total κs a = tt
 
-pub build_settled : Settles (λ b. columns b.1.1.1) build.Post
+pub build_settled : Settles (λ b. left b.1.0) build.Post
 build_settled κs a r r' b b' h k =
-    let v : says r.code r.at ≡ says r'.code r'.at = h.0 ∙ sym k.0 in
-    let same = ap (λ (u : Verdict). build-specs.afterwards u.code (table a.0.now a.1.0.now a.1.1.0.now) (columns a.1.1.1)) v in
-    let w = h.1 ∙ same ∙ sym k.1 in (
-      ap₂ (λ (u : Verdict) (z : Tree). record { code = u.code; at = u.at; nodes = z.shape.nodes; listed = z.shape.listed }) v w,
+    let v : said r ≡ said r' = h.0 ∙ sym k.0 in
+    let w = h.1 ∙ ap (λ (u : Verdict). build-specs.afterwards u.code a.0.now (lent a.1.0)) v ∙ sym k.1 in (
+      built_one r r' v (ap (λ (z : Tree). (z.shape.nodes, z.shape.listed)) w),
       ap (λ (z : Tree). tree (shape 0 0 z.shape.level z.shape.start z.shape.count z.shape.entries) z.sides z.kits) w,
     )
 
@@ -88,12 +80,11 @@ build_settled κs a r r' b b' h k =
 pub write_total : AsksNothing write.Pre
 write_total κs a = tt
 
-pub write_settled : Settles (λ b. b.1.1.1.1.1.0.now) write.Post
+pub write_settled : Settles (λ b. b.1.1.1.0.now) write.Post
 write_settled κs a r r' b b' h k =
-    let v : says r.code r.at ≡ says r'.code r'.at = h.0 ∙ sym k.0 in
-    let held : Held = asked (table a.0.now a.1.0.now a.1.1.0.now) a.1.1.1.0 a.1.1.1.1.0 in
-    let w = h.1 ∙ ap (λ (u : Verdict). write-specs.afterwards u.code held a.1.1.1.1.1.0.now) v ∙ sym k.1 in
-    (ap₂ (λ (u : Verdict) (z : ℕ × List ℕ). record { code = u.code; at = u.at; bytes = z.0 }) v w, ap (λ (z : ℕ × List ℕ). z.1) w)
+    let v : said r ≡ said r' = h.0 ∙ sym k.0 in
+    let w = h.1 ∙ ap (λ (u : Verdict). write-specs.afterwards u.code (asked a.0.now a.1.0 a.1.1.0) a.1.1.1.0.now) v ∙ sym k.1 in
+    (written_one r r' v (ap (λ (z : ℕ × List ℕ). z.0) w), ap (λ (z : ℕ × List ℕ). z.1) w)
 
 -- the reader: three columns are lent
 pub read_total : AsksNothing read.Pre

@@ -13,8 +13,8 @@ use contract.Monad.{Fun, fact, fact_mono}
 use denote.Ref.{Bor}
 use denote.Triple.Clauses.{ensured, lasts}
 use Rattle.scan.specs.declared.Reader.{Reader}
-use Rattle.scan.specs.contracts.new as new
-use Rattle.scan.specs.contracts.moved as moved
+use Rattle.scan.specs.contracts.Reader.new as new
+use Rattle.scan.specs.contracts.Reader.moved as moved
 
 -- a reader of src s that stands at n
 abbrev pub reader : Bor (List ℕ) → ℕ → Reader

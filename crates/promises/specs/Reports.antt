@@ -1,8 +1,7 @@
 -- What a call that looks at a list of rules reports.
 -- Assumes nothing.
 use Rattle.std.specs.Prelude.{List, [], ◌∷◌, ℕ, ◌+◌, ◌≤◌, ◌<◌}
-use Rattle.verdict.specs.Rules.{Rule, Holds, says}
-use Rattle.verdict.specs.declared.Verdict.{Verdict}
+use Rattle.verdict.specs.Rules.{Rule, Holds, says, Verdict}
 
 -- success where all rules hold; else the first broken rule, with the lowest of its places at which it breaks
 pub data Reports : List Rule → Verdict → Type 1 where

@@ -1,186 +1,127 @@
-// Lines of a sheet read in one go, where they read well; all others are left to the readers of `lines`. No function changes what it was lent.
+// Lines of a sheet read in one go, where they read well; all others are left to `readers`. No function changes what it was lent.
 #![tactic(auto)]
 
-ghost use Rattle.std.specs.Prelude.{◌≡◌, true, false, T, ◌≤◌, length, pos};
+ghost use Rattle.std.specs.Prelude.{◌≡◌, T, ◌≤◌, length, IfSome};
 ghost use Rattle.lines.specs.Form.{natural, coordinate, bits};
 ghost use Rattle.lines.specs.Line.{fair};
-ghost use Rattle.quick.specs.Quick.{with_sign, Leads, Minus, ReadsWell};
+ghost use Rattle.quick.specs.Quick.{with_sign, Leads, Follows, ReadsWell};
+
+use readers::{Bits, Coordinate, Natural, ValueForm};
 
 // What was read in one go, without looking for the line feed first: how many bytes it takes with its line feed, and its value.
-// Where `ok` is false nothing was, and no fault is found: the line may be good.
 #[derive(Drop)]
-pub struct NumberRun {
-    pub ok: bool,
+pub struct Run<T> {
     pub count: usize,
-    pub value: u64,
+    pub value: T,
 }
 
-#[derive(Drop)]
-pub struct CoordinateRun {
-    pub ok: bool,
-    pub count: usize,
-    pub value: i32,
-}
-
-fn no_number() -> NumberRun
-    ensures { result ≡ record { ok = false; count = 0; value = 0 } }
-{
-    NumberRun {
-        ok: false,
-        count: 0,
-        value: 0,
-    }
-}
-
-fn no_coordinate() -> CoordinateRun
-    ensures { result ≡ record { ok = false; count = 0; value = pos 0 } }
-{
-    CoordinateRun {
-        ok: false,
-        count: 0,
-        value: 0,
-    }
+// Internal: a form of values that can be read in one go. Where nothing is read, no fault is found: the line may be good.
+pub trait QuickForm: ValueForm {
+    // A value, up to a line feed.
+    fn to_feed(&self, t: &[u8]) -> Option<Run<Self::Value>>
+        ensures { IfSome result (λ r. Follows (Self.form self.now) t.now r.count r.value) };
 }
 
 // A decimal number of at most `most`, up to a line feed.
-fn number_to_feed(t: &[u8], most: u64) -> NumberRun
-    requires { most ≤ 4294967295 }
-    ensures { (result.count ≤ length t.now) × (result.ok ≡ true → Leads (natural most) t.now result.count result.value) }
+fn number_to_feed(t: &[u8], most: u32) -> Option<Run<u32>>
+    ensures { IfSome result (λ r. Leads (natural most) t.now r.count r.value) }
 {
+    let most = u64::from(most);
     let mut a: u64 = 0;
-    let mut i = 0;
-    while i < t.len() {
-        let c = t[i];
-        if c == b'\n' {
-            return NumberRun {
-                ok: readers::led(&t[..i]),
+    for (i, c) in t.iter().enumerate() {
+        if *c == b'\n' {
+            if !readers::led(&t[..i]) {
+                return None;
+            }
+            return Some(Run {
                 count: i + 1,
-                value: a,
-            };
+                value: a as u32,
+            });
         }
-        if c < b'0' {
-            return no_number();
+        if !c.is_ascii_digit() {
+            return None;
         }
-        if b'9' < c {
-            return no_number();
-        }
-        a = a * 10 + readers::wide(c - b'0');
+        a = a * 10 + u64::from(*c - b'0');
         if most < a {
-            return no_number();
+            return None;
         }
-        i += 1;
     }
-    no_number()
+    None
 }
 
-// How many bytes the minus takes.
-fn minus_at(t: &[u8]) -> usize
-    ensures { Minus t.now result }
-{
-    if t.len() == 0 {
-        return 0;
+impl QuickForm for Natural {
+    fn to_feed(&self, t: &[u8]) -> Option<Run<u32>> {
+        number_to_feed(t, self.most)
     }
-    if t[0] == b'-' {
-        return 1;
-    }
-    0
 }
 
-fn with_sign(minus: usize, n: u64) -> i32
+impl QuickForm for Bits {
+    fn to_feed(&self, t: &[u8]) -> Option<Run<u64>> {
+        if t.len() < 17 || t[16] != b'\n' {
+            return None;
+        }
+        let value = self.parse(&t[..16])?;
+        Some(Run { count: 17, value })
+    }
+}
+
+fn with_sign(minus: bool, n: u32) -> i32
     requires { n ≤ 1000000 }
     ensures { result ≡ with_sign minus n }
 {
     let z = n as i32;
-    if minus == 0 {
-        return z;
-    }
-    0 - z
+    if minus { -z } else { z }
 }
 
-// A coordinate, up to a line feed. Both signs go one way, since a branch on the sign is guessed wrong half of the time.
-fn coordinate_to_feed(t: &[u8]) -> CoordinateRun
-    ensures { (result.count ≤ length t.now) × (result.ok ≡ true → Leads (coordinate 1000000) t.now result.count result.value) }
-{
-    let minus = minus_at(t);
-    let n = number_to_feed(&t[minus..], 1000000);
-    if !n.ok {
-        return no_coordinate();
-    }
-    if n.value < minus as u64 {
-        return no_coordinate();
-    }
-    CoordinateRun {
-        ok: true,
-        count: minus + n.count,
-        value: with_sign(minus, n.value),
+impl QuickForm for Coordinate {
+    // Both signs go one way, since a branch on the sign is guessed wrong half of the time.
+    fn to_feed(&self, t: &[u8]) -> Option<Run<i32>> {
+        let minus = t.starts_with(b"-");
+        let skip = usize::from(minus);
+        let n = number_to_feed(&t[skip..], 1000000)?;
+        if n.value < u32::from(minus) {
+            return None;
+        }
+        Some(Run {
+            count: skip + n.count,
+            value: with_sign(minus, n.value),
+        })
     }
 }
 
-// 64 bits, up to a line feed.
-fn bits_to_feed(t: &[u8]) -> NumberRun
-    ensures { (result.count ≤ length t.now) × (result.ok ≡ true → Leads bits t.now result.count result.value) }
+// Internal: the line that a text begins with, due with a key and a value of a form, where it is read in one go.
+pub fn read<F: QuickForm>(t: &[u8], key: &[u8], form: &F) -> Option<Run<F::Value>>
+    requires { T (fair key.now) }
+    ensures { IfSome result (λ r. ReadsWell key.now (F.form form.now) t.now r.count r.value) }
 {
-    if t.len() < 17 {
-        return no_number();
-    }
-    if t[16] != b'\n' {
-        return no_number();
-    }
-    let n = readers::parse_bits(&t[..16]);
-    NumberRun {
-        ok: n.ok,
-        count: 17,
-        value: n.value,
-    }
+    let rest = t.strip_prefix(key)?;
+    let taken = form.to_feed(rest)?;
+    Some(Run {
+        count: key.len() + taken.count,
+        value: taken.value,
+    })
 }
 
-// Internal: the line that a text begins with, due with a key and a decimal number of at most `most`, where it is read in one go.
-pub fn quick_number(t: &[u8], key: &[u8], most: u64) -> NumberRun
-    requires { T (fair key.now) × (most ≤ 4294967295) }
-    ensures { result.ok ≡ true → ReadsWell key.now (natural most) t.now result.count result.value }
+// Internal: the same for a decimal number of at most `most`.
+pub fn quick_number(t: &[u8], key: &[u8], most: u32) -> Option<Run<u32>>
+    requires { T (fair key.now) }
+    ensures { IfSome result (λ r. ReadsWell key.now (natural most) t.now r.count r.value) }
 {
-    if !readers::begins(t, key) {
-        return no_number();
-    }
-    let n = key.len();
-    let v = number_to_feed(&t[n..], most);
-    NumberRun {
-        ok: v.ok,
-        count: n + v.count,
-        value: v.value,
-    }
+    read(t, key, &Natural { most })
 }
 
 // Internal: the same for 64 bits.
-pub fn quick_bits(t: &[u8], key: &[u8]) -> NumberRun
+pub fn quick_bits(t: &[u8], key: &[u8]) -> Option<Run<u64>>
     requires { T (fair key.now) }
-    ensures { result.ok ≡ true → ReadsWell key.now bits t.now result.count result.value }
+    ensures { IfSome result (λ r. ReadsWell key.now bits t.now r.count r.value) }
 {
-    if !readers::begins(t, key) {
-        return no_number();
-    }
-    let n = key.len();
-    let v = bits_to_feed(&t[n..]);
-    NumberRun {
-        ok: v.ok,
-        count: n + v.count,
-        value: v.value,
-    }
+    read(t, key, &Bits)
 }
 
 // Internal: the same for a coordinate.
-pub fn quick_coordinate(t: &[u8], key: &[u8]) -> CoordinateRun
+pub fn quick_coordinate(t: &[u8], key: &[u8]) -> Option<Run<i32>>
     requires { T (fair key.now) }
-    ensures { result.ok ≡ true → ReadsWell key.now (coordinate 1000000) t.now result.count result.value }
+    ensures { IfSome result (λ r. ReadsWell key.now (coordinate 1000000) t.now r.count r.value) }
 {
-    if !readers::begins(t, key) {
-        return no_coordinate();
-    }
-    let n = key.len();
-    let v = coordinate_to_feed(&t[n..]);
-    CoordinateRun {
-        ok: v.ok,
-        count: n + v.count,
-        value: v.value,
-    }
+    read(t, key, &Coordinate)
 }

@@ -1,17 +1,21 @@
--- A line is found by going up to its line feed; a key is compared byte by byte.
+-- A line is found by its first line feed.
 -- Assumes nothing.
-use Prim.Native.Nat.{ℕ, zero, suc, ◌+◌, ◌-◌, ◌≤◌, ◌<◌}
-use mathlib.Core.Path.{◌≡◌, refl, ap, ap₂, sym, ◌∙◌}
-use mathlib.Core.Logic.{⊎_elim}
-use mathlib.Core.Bool.{Bool, false}
-use mathlib.Core.List.{List, [], ◌∷◌, ◌++◌}
-use native.Mathlib.Nat.{eq-or-lt_of_le}
-use native.Mathlib.Numerals.{add-one}
+use Prim.Native.Nat.{ℕ, zero, suc, ◌+◌, ◌-◌, ◌≤◌, ◌<◌, min}
+use mathlib.Core.Path.{◌≡◌, refl, ap, ap₂, sym, ◌∙◌, subst}
+use mathlib.Core.Bool.{true, false, true≢false}
+use mathlib.Core.List.{List, [], ◌∷◌}
 use native.Mathlib.Omega.{arith}
-use lib.ListN.{length, take, drop, get_or, length-drop, length-take}
-use lib.Seq.{get_or-drop, drop-drop, take-suc, take_all, get_or-take}
-use Rattle.lines.specs.Line.{line, none, onto, cut, Keyed, longest}
-use Rattle.readers.specs.Readers.{between, Ends, Decides}
+use lib.ListN.{length, take, drop, get_or, length-take, length-drop}
+use lib.Seq.{get_or-take, drop-drop, take_all}
+use denote.Ref.{Bor}
+use Rattle.std.specs.Str.{bytes_eq}
+use Rattle.std.proofs.lemmas.Slice.Eq.{bytes_eq-Decides}
+use Rattle.readers.specs.declared.Line.{Line}
+use Rattle.std.specs.Prelude.{Option, Some, None, MatchOption}
+use Rattle.std.specs.List.{AllWithin, HoldsAt}
+use Rattle.lines.specs.Form.{Form, InForm, in_form}
+use Rattle.lines.specs.Line.{line, none, onto, cut, Keyed, keyed, unkey, due, longest, line_of, value_by, read_line, refused, got}
+use Rattle.readers.specs.Readers.{Ends, Due}
 use Rattle.lines.proofs.FormLaws.{NoFeed}
 use Rattle.lines.proofs.LineLaws.{feed_yes, feed_no}
 
@@ -33,93 +37,74 @@ cut_none (suc room) (c ∷ s) f =
     feed_no c (line [] s) (onto c (cut room s)) (f 0 (omega arith) (omega arith))
     ∙ ap (onto c) (cut_none room s (λ k a b. f (suc k) (omega arith) (omega arith)))
 
--- the bytes from at up to i hold no line feed, and are at most 40
-pub record Passed (s : List ℕ) (at i : ℕ) : Type 0 where
-  pub from : at ≤ i
-  pub most : i ≤ length s
-  pub near : i ≤ at + 40
-  pub clear : (k : ℕ) → at ≤ k → k < i → NoFeed (get_or s k 0)
+-- the first line feed among the first bytes of t, as many as a line may have and one more
+pub ends_first : (t : List ℕ) (r : Option ℕ) (n : ℕ) → n ≡ min (length t) 41 → MatchOption r (AllWithin NoFeed (take n t) 0 (length (take n t))) (λ i. (i < length (take n t)) × HoldsAt (λ c. c ≡ 10) (take n t) i × AllWithin NoFeed (take n t) 0 i) → Ends t r
+ends_first t None n q h = cut_none longest t (λ k a b e. h k 0 (omega arith) (omega (arith, length-take n t)) (get_or-take n t k 0 (omega arith) ∙ e))
+ends_first t (Some i) n q h =
+    let l : i < n = omega (arith, length-take n t, h.0) in
+    let m : suc i ≡ i + 1 = omega arith in (
+      omega arith,
+      cut_found longest i t (omega arith) (omega arith) (λ k b e. h.2 k 0 (omega arith) b (get_or-take n t k 0 (omega arith) ∙ e)) (sym (get_or-take n t i 0 l) ∙ h.1 0)
+          ∙ ap (λ (k : ℕ). line (take i t) (drop k t)) m,
+    )
 
-pub passed_none : (s : List ℕ) (at : ℕ) → at ≤ length s → Passed s at at
-passed_none s at h = record { from = omega arith; most = h; near = omega arith; clear = λ k a b. absurd (omega arith) }
+-- the line at `at` has the due key, or not
+module _ (key s : List ℕ) (at : ℕ) where
+  abbrev pub rest : List ℕ
+  rest = take (length s - at) (drop at s)
 
-module _ (s : List ℕ) (at i : ℕ) (p : Passed s at i) where
-  dropped : (k : ℕ) → at + k < i → NoFeed (get_or (drop at s) k 0)
-  dropped k b e = p.clear (at + k) (omega arith) b (sym (get_or-drop at s k 0) ∙ e)
+  rest_is : rest ≡ drop at s
+  rest_is = take_all (length s - at) (drop at s) (omega (arith, length-drop at s))
 
-  here : i < length s → NoFeed (get_or s i 0) → (k : ℕ) → at + k ≤ i → NoFeed (get_or (drop at s) k 0)
-  here h n k b e =
-      ⊎_elim (λ (q : at + k ≡ i). n (ap (λ (m : ℕ). get_or s m 0) (sym q) ∙ sym (get_or-drop at s k 0) ∙ e)) (λ (l : at + k < i). dropped k l e) (eq-or-lt_of_le b)
+  no_value : (r : Option (Line (Bor (List ℕ)))) → r ≡ None → due key (drop at s) ≡ none → Due s at key r
+  no_value r q e = subst (Due s at key) (sym q) e
 
-  pub passed_more : i < length s → (i - at ≡ 40 → ⊥) → NoFeed (get_or s i 0) → Passed s at (i + 1)
-  passed_more h f n = record {
-    from = omega (arith, p.from);
-    most = omega arith;
-    near = omega (arith, p.from, p.near, f);
-    clear = λ k a b e. ⊎_elim (λ (q : k ≡ i). n (ap (λ (m : ℕ). get_or s m 0) (sym q) ∙ e)) (λ (l : k < i). p.clear k a l e) (eq-or-lt_of_le (omega arith));
-  }
+  pub due_none : (r : Option (Line (Bor (List ℕ)))) → r ≡ None → cut longest rest ≡ none → Due s at key r
+  unfolding due
+  due_none r q e = no_value r q (ap (λ (t : List ℕ). unkey key (cut longest t)) (sym rest_is) ∙ ap (unkey key) e)
 
-  pub ends_found : i < length s → get_or s i 0 ≡ 10 → Ends s at i
-  ends_found h e =
-      let q : at + (i - at) ≡ i = omega (arith, p.from) in
-      let r : at + suc (i - at) ≡ i + 1 = omega arith in
-      record {
-        from = p.from;
-        most = p.most;
-        found = λ _.
-            cut_found longest (i - at) (drop at s) (omega (arith, p.near)) (omega (arith, length-drop at s, p.from)) (λ k b. dropped k (omega arith)) (get_or-drop at s (i - at) 0 ∙ ap (λ (m : ℕ). get_or s m 0) q ∙ e)
-            ∙ ap (line (between s at i)) (drop-drop (suc (i - at)) at s ∙ ap (λ (m : ℕ). drop m s) r);
-        missing = λ q. absurd (omega arith);
-      }
+  module _ (n : ℕ) (e : cut longest rest ≡ line (take n rest) (drop (n + 1) rest)) where
+    pub due_other : (r : Option (Line (Bor (List ℕ)))) → r ≡ None → bytes_eq (take (length key) (take n rest)) key ≡ false → Due s at key r
+    unfolding due
+    due_other r q f = no_value r q (ap (λ (t : List ℕ). unkey key (cut longest t)) (sym rest_is) ∙ ap (unkey key) e ∙ go (keyed key (take n rest)))
+      where
+        go : (d : Dec (Keyed key (take n rest))) → elim d [ yes _ ↦ line (drop (length key) (take n rest)) (drop (n + 1) rest) | no _ ↦ none ] ≡ none
+        go (yes k) = absurd (true≢false (sym ((bytes_eq-Decides (take (length key) (take n rest)) key).1 k) ∙ f))
+        go (no _) = refl
 
-  pub ends_long : i < length s → NoFeed (get_or s i 0) → i - at ≡ 40 → Ends s at (length s)
-  ends_long h n e = record {
-    from = omega (arith, p.from);
-    most = omega arith;
-    found = λ b. absurd (omega arith);
-    missing = λ _. cut_none longest (drop at s) (λ k a b. here h n k (omega (arith, p.from)));
-  }
+    pub due_value : bytes_eq (take (length key) (take n rest)) key ≡ true → (v : List ℕ) → v ≡ drop (length key) (take n rest) → n < length rest → at ≤ length s → (at + n + 1 ≤ length s) × (due key (drop at s) ≡ line v (drop (at + n + 1) s))
+    unfolding due
+    due_value f v q l h = (
+      omega (arith, ap length rest_is, length-drop at s),
+      ap (λ (t : List ℕ). unkey key (cut longest t)) (sym rest_is)
+          ∙ ap (unkey key) e
+          ∙ go (keyed key (take n rest))
+          ∙ ap₂ (λ (t r : List ℕ). line t r) (sym q) (ap (drop (n + 1)) rest_is ∙ drop-drop (n + 1) at s ∙ ap (λ (k : ℕ). drop k s) (omega arith)),
+    )
+      where
+        go : (d : Dec (Keyed key (take n rest))) → elim d [ yes _ ↦ line (drop (length key) (take n rest)) (drop (n + 1) rest) | no _ ↦ none ] ≡ line (drop (length key) (take n rest)) (drop (n + 1) rest)
+        go (yes _) = refl
+        go (no k) = absurd (k ((bytes_eq-Decides (take (length key) (take n rest)) key).0 f))
 
-  pub ends_short : length s ≤ i → Ends s at (length s)
-  ends_short h = record {
-    from = omega (arith, p.from, p.most);
-    most = omega arith;
-    found = λ b. absurd (omega arith);
-    missing = λ _. cut_none longest (drop at s) (λ k a b. dropped k (omega (arith, length-drop at s, p.from, p.most)));
-  }
+-- what the line is read as
+module _ {A : Type 0} (f : Form A) (key s : List ℕ) where
+  pub read_missing : due key s ≡ none → (n : ℕ) → read_line key f n s ≡ refused 51 n
+  unfolding read_line
+  read_missing e n = ap (line_of f n) e
 
--- a key, as far as it was compared
-pub record Alike (t key : List ℕ) (i : ℕ) : Type 0 where
-  pub most : i ≤ length key
-  pub same : take i t ≡ take i key
+  module _ (t r : List ℕ) (e : due key s ≡ line t r) where
+    pub read_out_of_form : (InForm f t → ⊥) → (n : ℕ) → read_line key f n s ≡ refused 52 n
+    unfolding read_line
+    read_out_of_form k n = ap (line_of f n) e ∙ go (in_form f t)
+      where
+        go : (i : Dec (InForm f t)) → value_by f n t r i ≡ refused 52 n
+        go (yes h) = absurd (k h)
+        go (no _) = refl
 
-pub alike_none : (t key : List ℕ) → Alike t key 0
-alike_none t key = record { most = omega arith; same = refl }
-
-pub unkeyed_short : (t key : List ℕ) → length t < length key → Keyed key t → ⊥
-unkeyed_short t key h e = omega (arith, length-take (length key) t, ap length e)
-
-module _ (t key : List ℕ) (i : ℕ) (a : Alike t key i) (k : length key ≤ length t) where
-  pub alike_more : i < length key → get_or t i 0 ≡ get_or key i 0 → Alike t key (i + 1)
-  alike_more h e = record {
-    most = omega arith;
-    same = rw add-one (take-suc t i 0 (omega arith) ∙ ap₂ (λ (l : List ℕ) (c : ℕ). l ++ (c ∷ [])) a.same e ∙ sym (take-suc key i 0 h));
-  }
-
-  pub unkeyed : i < length key → (get_or t i 0 ≡ get_or key i 0 → ⊥) → Keyed key t → ⊥
-  unkeyed h n e = n (sym (get_or-take (length key) t i 0 h) ∙ ap (λ (l : List ℕ). get_or l i 0) e)
-
-  pub all_keyed : length key ≤ i → Keyed key t
-  all_keyed h =
-      let e : i ≡ length key = omega (arith, a.most) in
-      ap (λ (n : ℕ). take n t) (sym e) ∙ a.same ∙ take_all i key h
-
--- a word: a key that is all of the text
-pub unlike : (t w : List ℕ) → (length t ≡ length w → ⊥) → Decides false (t ≡ w)
-unlike t w n = record { holds = λ e. absurd (let z : ◌≡◌ {A = ℕ} 0 1 = cc in omega arith); fails = λ _ e. n (ap length e) }
-
-pub whole_word : (r : Bool) (t w : List ℕ) → length t ≡ length w → Decides r (Keyed w t) → Decides r (t ≡ w)
-whole_word r t w l d = record {
-  holds = λ e. sym (take_all (length w) t (omega arith)) ∙ d.holds e;
-  fails = λ e q. d.fails e (take_all (length w) t (omega arith) ∙ q);
-}
+    pub read_value : (a : A) → InForm f t → a ≡ f.value t → (n : ℕ) → read_line key f n s ≡ got a r
+    unfolding read_line
+    read_value a h q n = ap (line_of f n) e ∙ go (in_form f t)
+      where
+        go : (i : Dec (InForm f t)) → value_by f n t r i ≡ got a r
+        go (yes _) = ap (λ (v : A). got v r) (sym q)
+        go (no k) = absurd (k h)

@@ -1,6 +1,5 @@
 -- Laws of the readers of a line.
 pub mod CutLaws
-pub mod ValueLaws
 pub mod ParseLaws
 pub mod SignedLaws
 pub mod ReadLaws

@@ -2,36 +2,28 @@
 -- Assumes nothing.
 use Prim.Native.Nat.{ℕ, zero, suc, ◌+◌, ◌-◌, ◌*◌, ◌^◌, ◌≤◌, ◌<◌}
 use mathlib.Core.Path.{◌≡◌, refl, ap, sym, ◌∙◌, subst}
-use mathlib.Core.Bool.{not}
 use mathlib.Core.List.{List, [], ◌∷◌, ◌++◌}
 use native.Mathlib.Nat.{mul-one, mul-le-mul_left, one-le-pow, pow-le-pow_right}
 use native.Mathlib.Numerals.{add-one}
 use native.Mathlib.Omega.{arith}
-use lib.Dec.{eqb}
-use borrow.Author.Tests.{not-true, not-false, eqb-true, eqb-false}
 use lib.ListN.{length, take, drop, get_or, take-append-drop}
 use lib.Seq.{take-suc, take_all, length-take-le}
 use Rattle.io.specs.Digits.{hex_digit_ascii}
 use Rattle.lines.specs.Text.{unglyph, Digit, NoZero, value_from}
-use Rattle.lines.specs.Form.{InForm, natural, bits}
-use Rattle.readers.specs.Readers.{Decides, Nibble}
+use Rattle.std.specs.Prelude.{Option, None}
+use Rattle.lines.specs.Form.{Form, InForm, natural, bits}
+use Rattle.readers.specs.Readers.{Parses}
 use Rattle.lines.proofs.DigitLaws.{Every, every_append, glyph_below, glyph_above, unglyph_low, unglyph_high, value_append, value_least, value_most}
 use Rattle.lines.proofs.FormLaws.{number_form, form_number, bits_form, form_bits}
+
+-- nothing is read of a text that is not in form
+pub unparsed : {A : Type 0} (f : Form A) (t : List ℕ) (r : Option A) → r ≡ None → (InForm f t → ⊥) → Parses f t r
+unparsed f t r e n = subst (Parses f t) (sym e) n
 
 -- no zero in front
 pub led_empty : (t : List ℕ) → length t ≡ 0 → NoZero t → ⊥
 led_empty [] h z = z
 led_empty (c ∷ t) h z = omega arith
-
-pub led_one : (t : List ℕ) → length t ≡ 1 → NoZero t
-led_one [] h = absurd (omega arith)
-led_one (c ∷ []) h = tt
-led_one (c ∷ (d ∷ t)) h = absurd (omega arith)
-
-pub led_more : (t : List ℕ) → (length t ≡ 0 → ⊥) → (length t ≡ 1 → ⊥) → Decides (not (eqb (get_or t 0 0) 48)) (NoZero t)
-led_more [] h k = absurd (h refl)
-led_more (c ∷ []) h k = absurd (k refl)
-led_more (c ∷ (d ∷ t)) h k = record { holds = λ e. eqb-false c 48 (not-true _ e); fails = λ e n. n (eqb-true c 48 (not-false _ e)) }
 
 -- digits
 pub digit_make : (c : ℕ) → 48 ≤ c → c ≤ 57 → Digit 10 c
@@ -96,26 +88,15 @@ module _ (most : ℕ) (t : List ℕ) (small : most ≤ 4294967295) where
   good a i s h k z = let w = sofar_all 10 t a i s h in (form_number most (omega arith) t w.1 z (omega (arith, w.0)), w.0)
 
 -- hexadecimal digits
-pub nibble_low : (c r : ℕ) → 48 ≤ c → c ≤ 57 → r ≡ c - 48 → Nibble c r
-nibble_low c r h k e =
+pub nibble_low : (c : ℕ) → 48 ≤ c → c ≤ 57 → Digit 16 c × (unglyph c ≡ c - 48)
+nibble_low c h k =
     let u : unglyph c ≡ c - 48 = unglyph_low c (omega arith) in
-    record {
-      most = omega arith;
-      digit = λ _. (record { least = h; back = ap hex_digit_ascii u ∙ glyph_below (c - 48) (omega arith) ∙ omega arith; below = omega arith }, u ∙ sym e);
-      none = λ q. absurd (omega arith);
-    }
+    (record { least = h; back = ap hex_digit_ascii u ∙ glyph_below (c - 48) (omega arith) ∙ omega arith; below = omega arith }, u)
 
-pub nibble_high : (c r : ℕ) → 97 ≤ c → c ≤ 102 → r ≡ c - 87 → Nibble c r
-nibble_high c r h k e =
+pub nibble_high : (c : ℕ) → 97 ≤ c → c ≤ 102 → Digit 16 c × (unglyph c ≡ c - 87)
+nibble_high c h k =
     let u : unglyph c ≡ c - 87 = unglyph_high c (omega arith) in
-    record {
-      most = omega arith;
-      digit = λ _. (record { least = omega arith; back = ap hex_digit_ascii u ∙ glyph_above (c - 87) (omega arith) ∙ omega arith; below = omega arith }, u ∙ sym e);
-      none = λ q. absurd (omega arith);
-    }
-
-pub nibble_none : (c : ℕ) → (Digit 16 c → ⊥) → Nibble c 16
-nibble_none c n = record { most = omega arith; digit = λ h. absurd (omega arith); none = λ _. n }
+    (record { least = omega arith; back = ap hex_digit_ascii u ∙ glyph_above (c - 87) (omega arith) ∙ omega arith; below = omega arith }, u)
 
 pub between : (c : ℕ) → 57 < c → c < 97 → Digit 16 c → ⊥
 between c h k d = let u : unglyph c ≡ c - 87 = unglyph_high c h in omega (arith, sym (ap hex_digit_ascii u) ∙ d.back, glyph_below (c - 87) (omega arith))

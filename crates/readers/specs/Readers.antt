@@ -1,53 +1,35 @@
 -- What the readers of lines tell.
 -- Assumes nothing.
-use Rattle.std.specs.Prelude.{ℕ, ◌+◌, ◌-◌, ◌≤◌, ◌<◌, ◌≡◌, Bool, true, false, List, length, take, drop, ℤ, pos}
-use Rattle.readers.specs.declared.Number.{Number}
-use Rattle.readers.specs.declared.Coordinate.{Coordinate}
-use Rattle.readers.specs.declared.Value.{Value}
-use Rattle.lines.specs.Text.{unglyph, Digit}
-use Rattle.lines.specs.Form.{Form, in_form}
+use Rattle.std.specs.Prelude.{ℕ, ◌+◌, ◌≤◌, ◌<◌, ◌≡◌, List, length, take, drop, SomeIff, MatchOption, Option, Result, MatchResult}
+use denote.Ref.{Bor}
+use Rattle.readers.specs.declared.Fault.{Fault}
+use Rattle.readers.specs.declared.Fault.TheVariants.{Missing, OutOfForm, BytesAfter}
+use Rattle.readers.specs.declared.Refusal.{Refusal}
+use Rattle.readers.specs.declared.Line.{Line}
+use Rattle.lines.specs.Form.{Form, InForm}
 use Rattle.lines.specs.Line.{line, none, cut, longest, due, Got, refused, got}
 
--- the bytes of s from `at` up to e
-abbrev pub between : List ℕ → ℕ → ℕ → List ℕ
-between s at e = take (e - at) (drop at s)
+-- the number of each fault
+abbrev pub code_of : Fault → ℕ
+code_of Missing = 51
+code_of OutOfForm = 52
+code_of BytesAfter = 53
 
--- the line at `at` ends at r; there is none where r is the length
-pub record Ends (s : List ℕ) (at r : ℕ) : Type 0 where
-  pub from : at ≤ r
-  pub most : r ≤ length s
-  pub found : r < length s → cut longest (drop at s) ≡ line (between s at r) (drop (r + 1) s)
-  pub missing : r ≡ length s → cut longest (drop at s) ≡ none
+-- the line that t begins with has n bytes, with no line feed among them; or there is none
+abbrev pub Ends : List ℕ → Option ℕ → Type 0
+Ends t r = MatchOption r (cut longest t ≡ none) (λ n. (n < length t) × (cut longest t ≡ line (take n t) (drop (n + 1) t)))
 
--- r says whether P
-pub record Decides (r : Bool) (P : Type 0) : Type 0 where
-  pub holds : r ≡ true → P
-  pub fails : r ≡ false → P → ⊥
+-- the value of a text that is in form
+abbrev pub Parses : {A : Type 0} → Form A → List ℕ → Option A → Type 0
+Parses f t r = SomeIff r (InForm f t) (f.value t)
 
--- what a hexadecimal digit stands for; 16 where it is none
-pub record Nibble (c r : ℕ) : Type 0 where
-  pub most : r ≤ 16
-  pub digit : r < 16 → Digit 16 c × (unglyph c ≡ r)
-  pub none : r ≡ 16 → Digit 16 c → ⊥
+-- the value of the line at `at`, and where the next begins, if the line has the due key
+abbrev pub Due : List ℕ → ℕ → List ℕ → Option (Line (Bor (List ℕ))) → Type 0
+Due s at key r = MatchOption r (due key (drop at s) ≡ none) (λ l. (l.next ≤ length s) × (due key (drop at s) ≡ line l.value.now (drop l.next s)))
 
--- the value of a text that is in form; `bad` where it is not
-unfoldable pub value_of : {A B : Type 0} → (A → B) → B → Form A → List ℕ → B
-unfolding in_form
-value_of good bad f t = elim (in_form f t) [ yes _ ↦ good (f.value t) | no _ ↦ bad ]
+-- what is told of bytes s that were read: the number and the line of a refusal; or the value, seen in some way, and where the next line begins
+abbrev pub ReadsAs : {A B : Type 0} → (B → A) → List ℕ → Got A → Result (Line B) Refusal → Type 0
+ReadsAs view s g r = MatchResult r (λ l. (l.next ≤ length s) × (g ≡ got (view l.value) (drop l.next s))) (λ e. g ≡ refused (code_of e.fault) e.line)
 
-abbrev pub number_of : Form ℕ → List ℕ → Number
-number_of f t = value_of (λ v. record { ok = true; value = v }) (record { ok = false; value = 0 }) f t
-
-abbrev pub coordinate_of : Form ℤ → List ℕ → Coordinate
-coordinate_of f t = value_of (λ v. record { ok = true; value = v }) (record { ok = false; value = pos 0 }) f t
-
--- where the value of the line at `at` stands, if the line has the due key
-pub record Due (s : List ℕ) (at : ℕ) (key : List ℕ) (v : Value) : Type 0 where
-  pub there : v.ok ≡ true → (v.from ≤ v.end) × (v.end < length s) × (due key (drop at s) ≡ line (between s v.from v.end) (drop (v.end + 1) s))
-  pub missing : v.ok ≡ false → (v.from ≡ 0) × (v.end ≡ 0) × (due key (drop at s) ≡ none)
-
--- what is told of bytes s that were read: the code and the line of a refusal, and `zero` for the value;
--- or code 0 and `fine`, where the next line begins, and the value
-abbrev pub Read : {A : Type 0} → List ℕ → Got A → ℕ → A → ℕ → ℕ → ℕ → A → Type 0
-Read s (refused c l) fine zero code at next v = (code ≡ c) × (at ≡ l) × (next ≡ 0) × (v ≡ zero) × (51 ≤ code)
-Read s (got a rest) fine zero code at next v = (code ≡ 0) × (at ≡ fine) × (next ≤ length s) × (v ≡ a) × (rest ≡ drop next s)
+abbrev pub Reads : {A : Type 0} → List ℕ → Got A → Result (Line A) Refusal → Type 0
+Reads s g r = ReadsAs (λ v. v) s g r

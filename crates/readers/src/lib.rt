@@ -1,380 +1,260 @@
 // Lines of a sheet, `key=value`: found, compared, and their values read. No function changes what it was lent.
 #![tactic(auto)]
 
-ghost use Rattle.std.specs.Prelude.{◌≡◌, ℕ, ◌≤◌, length, drop, pos};
-ghost use Rattle.lines.specs.Text.{NoZero};
-ghost use Rattle.lines.specs.Form.{natural, coordinate, bits, word};
-ghost use Rattle.lines.specs.Line.{Keyed, read_line};
-ghost use Rattle.readers.specs.Readers.{Ends, Decides, Nibble, Due, Read, number_of, coordinate_of};
+ghost use Rattle.std.specs.Prelude.{◌≡◌, ℕ, ◌≤◌, length, drop, ◌↔◌, IsTrue, SomeIff};
+ghost use Rattle.lines.specs.Text.{NoZero, unglyph, Digit};
+ghost use Rattle.lines.specs.Form.{Form, natural, coordinate, bits, word};
+ghost use Rattle.lines.specs.Line.{read_line};
+ghost use Rattle.readers.specs.Readers.{Ends, Due, Parses, Reads, code_of};
 
-// A value that was read; 0 where its text is not in form.
-#[derive(Drop)]
-pub struct Number {
-    pub ok: bool,
-    pub value: u64,
+// Why a line, or a sheet, is refused.
+#[derive(Clone, Copy, Debug, PartialEq, Eq)]
+pub enum Fault {
+    // The line is missing, over 40 bytes, without line feed, or of another key than due.
+    Missing,
+    // Its value is not in form or range.
+    OutOfForm,
+    // Bytes follow the last line.
+    BytesAfter,
 }
 
-#[derive(Drop)]
-struct Coordinate {
-    ok: bool,
-    value: i32,
+impl Fault {
+    // Internal: the refusal's number.
+    pub fn code(self) -> u8
+        ensures { result ≡ code_of self }
+    {
+        match self {
+            Fault::Missing => 51,
+            Fault::OutOfForm => 52,
+            Fault::BytesAfter => 53,
+        }
+    }
 }
 
-// The index of the line feed that ends the line at `at`; the length where none stands within 40 bytes.
-fn line_end(s: &[u8], at: usize) -> usize
+// A refusal: why, and at which line.
+#[derive(Clone, Copy, Debug, PartialEq, Eq)]
+pub struct Refusal {
+    pub fault: Fault,
+    pub line: usize,
+}
+
+// A line, or some in a row, that was read: its value, and where the next begins.
+#[derive(Drop)]
+pub struct Line<T> {
+    pub next: usize,
+    pub value: T,
+}
+
+// Internal: a form of values, as `lines` has them, that can be read.
+pub trait ValueForm {
+    type Value;
+
+    ghost form: { Self → Form Self.Value };
+
+    // The value of a text that is in form.
+    fn parse(&self, t: &[u8]) -> Option<Self::Value>
+        ensures { Parses (form self.now) t.now result };
+}
+
+// How many bytes the line has that a text begins with; none where no line feed stands within 40 bytes.
+fn line_end(t: &[u8]) -> Option<usize>
+    ensures { Ends t.now result }
+{
+    let near = t.len().min(41);
+    t[..near].iter().position(|c| *c == b'\n')
+}
+
+// The value of the line at `at`, if the line has the key.
+fn value_at<'a>(s: &'a [u8], at: usize, key: &[u8]) -> Option<Line<&'a [u8]>>
     requires { at ≤ length s.now }
-    ensures { Ends s.now at result }
+    ensures { Due s.now at key.now result }
 {
-    let n = s.len();
-    let mut i = at;
-    while i < n {
-        if s[i] == b'\n' {
-            return i;
-        }
-        if i - at == 40 {
-            return n;
-        }
-        i += 1;
-    }
-    n
+    let rest = &s[at..];
+    let n = line_end(rest)?;
+    let value = rest[..n].strip_prefix(key)?;
+    Some(Line {
+        next: at + n + 1,
+        value,
+    })
 }
 
-// Internal: whether a line begins with a key.
-pub fn begins(t: &[u8], key: &[u8]) -> bool
-    ensures { Decides result (Keyed key.now t.now) }
+// Internal: line number `line`, which begins at `at`, due with a key and a value of a form.
+pub fn read<F: ValueForm>(
+    s: &[u8],
+    at: usize,
+    line: usize,
+    key: &[u8],
+    form: &F,
+) -> Result<Line<F::Value>, Refusal>
+    requires { at ≤ length s.now }
+    ensures { Reads s.now (read_line key.now (F.form form.now) line (drop at s.now)) result }
 {
-    let n = key.len();
-    if t.len() < n {
-        return false;
-    }
-    let mut k = 0;
-    while k < n {
-        if t[k] != key[k] {
-            return false;
-        }
-        k += 1;
-    }
-    true
-}
-
-// Whether a text is a word.
-fn is(t: &[u8], word: &[u8]) -> bool
-    ensures { Decides result (t.now ≡ word.now) }
-{
-    if t.len() != word.len() {
-        return false;
-    }
-    begins(t, word)
-}
-
-// Internal: a byte as a wider number.
-pub fn wide(c: u8) -> u64
-    ensures { result ≡ c }
-{
-    c as u64
+    let Some(found) = value_at(s, at, key) else {
+        let fault = Fault::Missing;
+        return Err(Refusal { fault, line });
+    };
+    let Some(value) = form.parse(found.value) else {
+        let fault = Fault::OutOfForm;
+        return Err(Refusal { fault, line });
+    };
+    Ok(Line {
+        next: found.next,
+        value,
+    })
 }
 
 // Internal: whether a text has something, and no zero in front of more.
 pub fn led(t: &[u8]) -> bool
-    ensures { Decides result (NoZero t.now) }
+    ensures { IsTrue result ↔ NoZero t.now }
 {
-    if t.len() == 0 {
-        return false;
+    match t {
+        [] => false,
+        [_] => true,
+        [first, ..] => *first != b'0',
     }
-    if t.len() == 1 {
-        return true;
-    }
-    t[0] != b'0'
 }
 
-// A decimal number of at most `most`: digit by digit, so that none wraps round.
-fn parse(t: &[u8], most: u64) -> Number
-    requires { most ≤ 4294967295 }
-    ensures { result ≡ number_of (natural most) t.now }
-{
-    if !led(t) {
-        return Number {
-            ok: false,
-            value: 0,
-        };
-    }
-    let mut a: u64 = 0;
-    let mut i = 0;
-    while i < t.len() {
-        let c = t[i];
-        if c < b'0' {
-            return Number {
-                ok: false,
-                value: 0,
-            };
-        }
-        if b'9' < c {
-            return Number {
-                ok: false,
-                value: 0,
-            };
-        }
-        a = a * 10 + wide(c - b'0');
-        if most < a {
-            return Number {
-                ok: false,
-                value: 0,
-            };
-        }
-        i += 1;
-    }
-    Number { ok: true, value: a }
+// A decimal number of at most `most`.
+#[derive(Clone, Copy)]
+pub struct Natural {
+    pub most: u32,
 }
 
-// What a hexadecimal digit stands for; 16 where it is none.
-fn hex_digit(c: u8) -> u64
-    ensures { Nibble c result }
-{
-    if c < b'0' {
-        return 16;
+impl ValueForm for Natural {
+    type Value = u32;
+
+    ghost form = { λ f. natural f.most };
+
+    // Digit by digit, so that none wraps round.
+    fn parse(&self, t: &[u8]) -> Option<u32> {
+        let most = u64::from(self.most);
+        if !led(t) {
+            return None;
+        }
+        let mut a: u64 = 0;
+        for c in t {
+            if !c.is_ascii_digit() {
+                return None;
+            }
+            a = a * 10 + u64::from(*c - b'0');
+            if most < a {
+                return None;
+            }
+        }
+        Some(a as u32)
     }
-    if c <= b'9' {
-        return wide(c - b'0');
-    }
-    if c < b'a' {
-        return 16;
-    }
-    if c <= b'f' {
-        return wide(c - 87);
-    }
-    16
 }
 
-// Internal: 64 bits, sixteen hexadecimal digits.
-pub fn parse_bits(t: &[u8]) -> Number
-    ensures { result ≡ number_of bits t.now }
+// What a hexadecimal digit stands for.
+fn hex_digit(c: u8) -> Option<u64>
+    ensures { SomeIff result (Digit 16 c) (unglyph c) }
 {
-    if t.len() != 16 {
-        return Number {
-            ok: false,
-            value: 0,
-        };
+    match c {
+        b'0'..=b'9' => Some(u64::from(c - b'0')),
+        b'a'..=b'f' => Some(u64::from(c - 87)),
+        _ => None,
     }
-    let mut a: u64 = 0;
-    let mut i = 0;
-    while i < t.len() {
-        let d = hex_digit(t[i]);
-        if 15 < d {
-            return Number {
-                ok: false,
-                value: 0,
-            };
+}
+
+// 64 bits, sixteen hexadecimal digits.
+#[derive(Clone, Copy)]
+pub struct Bits;
+
+impl ValueForm for Bits {
+    type Value = u64;
+
+    ghost form = { λ _. bits };
+
+    fn parse(&self, t: &[u8]) -> Option<u64> {
+        if t.len() != 16 {
+            return None;
         }
-        a = a * 16 + d;
-        i += 1;
+        let mut a: u64 = 0;
+        for c in t {
+            a = a * 16 + hex_digit(*c)?;
+        }
+        Some(a)
     }
-    Number { ok: true, value: a }
 }
 
 // A coordinate, from -1,000,000 to 1,000,000.
-fn parse_coordinate(t: &[u8]) -> Coordinate
-    ensures { result ≡ coordinate_of (coordinate 1000000) t.now }
-{
-    if t.len() == 0 {
-        return Coordinate {
-            ok: false,
-            value: 0,
+#[derive(Clone, Copy)]
+pub struct Coordinate;
+
+impl ValueForm for Coordinate {
+    type Value = i32;
+
+    ghost form = { λ _. coordinate 1000000 };
+
+    fn parse(&self, t: &[u8]) -> Option<i32> {
+        let most = Natural { most: 1000000 };
+        let Some(digits) = t.strip_prefix(b"-") else {
+            return Some(most.parse(t)? as i32);
         };
-    }
-    if t[0] == b'-' {
-        let m = parse(&t[1..], 1000000);
-        if !m.ok {
-            return Coordinate {
-                ok: false,
-                value: 0,
-            };
+        let n = most.parse(digits)?;
+        if n == 0 {
+            return None;
         }
-        if m.value == 0 {
-            return Coordinate {
-                ok: false,
-                value: 0,
-            };
-        }
-        return Coordinate {
-            ok: true,
-            value: 0 - (m.value as i32),
-        };
-    }
-    let n = parse(t, 1000000);
-    if !n.ok {
-        return Coordinate {
-            ok: false,
-            value: 0,
-        };
-    }
-    Coordinate {
-        ok: true,
-        value: n.value as i32,
+        Some(-(n as i32))
     }
 }
 
-// The value of a line: where it begins, and where its line feed stands.
-#[derive(Drop)]
-struct Value {
-    ok: bool,
-    from: usize,
-    end: usize,
+// One word.
+#[derive(Clone, Copy)]
+pub struct Word<'a> {
+    pub text: &'a [u8],
 }
 
-// A line that was read: its code (0, 51 or 52), where the next begins, and its value; all but the code 0 in a refusal.
-#[derive(Drop)]
-pub struct NumberLine {
-    pub code: u8,
-    pub next: usize,
-    pub value: u64,
+impl<'a> ValueForm for Word<'a> {
+    type Value = ();
+
+    ghost form = { λ f. word f.text.now };
+
+    fn parse(&self, t: &[u8]) -> Option<()> {
+        if t == self.text { Some(()) } else { None }
+    }
 }
 
-#[derive(Drop)]
-pub struct CoordinateLine {
-    pub code: u8,
-    pub next: usize,
-    pub value: i32,
-}
-
-#[derive(Drop)]
-pub struct WordLine {
-    pub code: u8,
-    pub next: usize,
-}
-
-// The value of the line at `at`, if the line has the key.
-fn value_at(s: &[u8], at: usize, key: &[u8]) -> Value
+// Internal: the line due with a key and a decimal number of at most `most`.
+pub fn line_number(
+    s: &[u8],
+    at: usize,
+    line: usize,
+    key: &[u8],
+    most: u32,
+) -> Result<Line<u32>, Refusal>
     requires { at ≤ length s.now }
-    ensures { Due s.now at key.now result }
+    ensures { Reads s.now (read_line key.now (natural most) line (drop at s.now)) result }
 {
-    let e = line_end(s, at);
-    if e == s.len() {
-        return Value {
-            ok: false,
-            from: 0,
-            end: 0,
-        };
-    }
-    if !begins(&s[at..e], key) {
-        return Value {
-            ok: false,
-            from: 0,
-            end: 0,
-        };
-    }
-    Value {
-        ok: true,
-        from: at + key.len(),
-        end: e,
-    }
+    read(s, at, line, key, &Natural { most })
 }
 
-// Internal: the line at `at`, due with a key and a decimal number of at most `most`.
-pub fn line_number(s: &[u8], at: usize, key: &[u8], most: u64) -> NumberLine
-    requires { (at ≤ length s.now) × (most ≤ 4294967295) }
-    ensures { (n : ℕ) → Read s.now (read_line key.now (natural most) n (drop at s.now)) n 0 result.code n result.next result.value }
-{
-    let v = value_at(s, at, key);
-    if !v.ok {
-        return NumberLine {
-            code: 51,
-            next: 0,
-            value: 0,
-        };
-    }
-    let from = v.from;
-    let end = v.end;
-    let n = parse(&s[from..end], most);
-    if !n.ok {
-        return NumberLine {
-            code: 52,
-            next: 0,
-            value: 0,
-        };
-    }
-    NumberLine {
-        code: 0,
-        next: end + 1,
-        value: n.value,
-    }
-}
-
-// Internal: the line at `at`, due with a key and 64 bits.
-pub fn line_bits(s: &[u8], at: usize, key: &[u8]) -> NumberLine
+// Internal: the line due with a key and 64 bits.
+pub fn line_bits(s: &[u8], at: usize, line: usize, key: &[u8]) -> Result<Line<u64>, Refusal>
     requires { at ≤ length s.now }
-    ensures { (n : ℕ) → Read s.now (read_line key.now bits n (drop at s.now)) n 0 result.code n result.next result.value }
+    ensures { Reads s.now (read_line key.now bits line (drop at s.now)) result }
 {
-    let v = value_at(s, at, key);
-    if !v.ok {
-        return NumberLine {
-            code: 51,
-            next: 0,
-            value: 0,
-        };
-    }
-    let from = v.from;
-    let end = v.end;
-    let n = parse_bits(&s[from..end]);
-    if !n.ok {
-        return NumberLine {
-            code: 52,
-            next: 0,
-            value: 0,
-        };
-    }
-    NumberLine {
-        code: 0,
-        next: end + 1,
-        value: n.value,
-    }
+    read(s, at, line, key, &Bits)
 }
 
-// Internal: the line at `at`, due with a key and a coordinate.
-pub fn line_coordinate(s: &[u8], at: usize, key: &[u8]) -> CoordinateLine
+// Internal: the line due with a key and a coordinate.
+pub fn line_coordinate(s: &[u8], at: usize, line: usize, key: &[u8]) -> Result<Line<i32>, Refusal>
     requires { at ≤ length s.now }
-    ensures { (n : ℕ) → Read s.now (read_line key.now (coordinate 1000000) n (drop at s.now)) n (pos 0) result.code n result.next result.value }
+    ensures { Reads s.now (read_line key.now (coordinate 1000000) line (drop at s.now)) result }
 {
-    let v = value_at(s, at, key);
-    if !v.ok {
-        return CoordinateLine {
-            code: 51,
-            next: 0,
-            value: 0,
-        };
-    }
-    let from = v.from;
-    let end = v.end;
-    let n = parse_coordinate(&s[from..end]);
-    if !n.ok {
-        return CoordinateLine {
-            code: 52,
-            next: 0,
-            value: 0,
-        };
-    }
-    CoordinateLine {
-        code: 0,
-        next: end + 1,
-        value: n.value,
-    }
+    read(s, at, line, key, &Coordinate)
 }
 
-// Internal: the line at `at`, due with a key and a word.
-pub fn line_word(s: &[u8], at: usize, key: &[u8], text: &[u8]) -> WordLine
+// Internal: the line due with a key and a word.
+pub fn line_word(
+    s: &[u8],
+    at: usize,
+    line: usize,
+    key: &[u8],
+    text: &[u8],
+) -> Result<Line<()>, Refusal>
     requires { at ≤ length s.now }
-    ensures { (n : ℕ) → Read s.now (read_line key.now (word text.now) n (drop at s.now)) n tt result.code n result.next tt }
+    ensures { Reads s.now (read_line key.now (word text.now) line (drop at s.now)) result }
 {
-    let v = value_at(s, at, key);
-    if !v.ok {
-        return WordLine { code: 51, next: 0 };
-    }
-    let from = v.from;
-    let end = v.end;
-    if !is(&s[from..end], text) {
-        return WordLine { code: 52, next: 0 };
-    }
-    WordLine {
-        code: 0,
-        next: end + 1,
-    }
+    read(s, at, line, key, &Word { text })
 }

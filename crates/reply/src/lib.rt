@@ -6,6 +6,8 @@ ghost use Rattle.rows.specs.Sheet.{read_sheet};
 ghost use Rattle.answer.specs.Lent.{laid, holding};
 ghost use Rattle.reply.specs.Reply.{printed_for, printed};
 
+use table::Table;
+
 // The answer to a sheet, which is read into the lent columns.
 fn reply_in(input: &[u8], x: &mut [i32], y: &mut [i32], kit: &mut [u64], out: &mut [u8]) -> usize
     requires { (4096 ≤ length x.old) × ((4096 ≤ length y.old) × (4096 ≤ length kit.old)) }
@@ -16,8 +18,12 @@ fn reply_in(input: &[u8], x: &mut [i32], y: &mut [i32], kit: &mut [u64], out: &m
     if s.code != 0 {
         return answer::lines(found::refuse(s.code, s.at), 0, out);
     }
-    let n = s.places;
-    let found = own::search_table(&x[..n], &y[..n], &kit[..n], s.want, s.budget);
+    let t = Table {
+        x: &x[..s.places],
+        y: &y[..s.places],
+        kit: &kit[..s.places],
+    };
+    let found = own::search_table(&t, s.want, s.budget);
     answer::lines(found, s.want, out)
 }
 
@@ -27,11 +33,11 @@ pub fn reply(input: &[u8], out: &mut [u8]) -> usize
     ensures value { result ≡ laid (printed input.now) out.old }
     ensures out_after { out.new ≡ holding (printed input.now) out.old }
 {
-    if 65536 < input.len() {
+    if input.len() > 65536 {
         return answer::lines(found::refuse(55, 0), 0, out);
     }
-    let mut x = [0i32; 4096];
-    let mut y = [0i32; 4096];
-    let mut kit = [0u64; 4096];
+    let mut x = [0; 4096];
+    let mut y = [0; 4096];
+    let mut kit = [0; 4096];
     reply_in(input, &mut x, &mut y, &mut kit, out)
 }

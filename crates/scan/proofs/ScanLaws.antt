@@ -15,7 +15,10 @@ use Rattle.parts.specs.Parts.{head_part}
 use Rattle.rows.proofs.RowLaws.{several_length, rows_columns}
 use Rattle.rows.proofs.SheetLaws.{lawful_place}
 use Rattle.parts.proofs.PlaceLaws.{place_lines}
-use Rattle.scan.specs.Read.{sheet_of, passed}
+use Rattle.std.specs.Prelude.{Result, Ok, Err, IsErrAnd}
+use Rattle.readers.specs.declared.Refusal.{Refusal}
+use Rattle.scan.specs.declared.Sheet.{Sheet}
+use Rattle.scan.specs.Read.{sheet_of, refusal_of, told, passed}
 use Rattle.scan.proofs.SeveralLaws.{pair, several_lines}
 
 -- what is read after the head, and after the places
@@ -130,3 +133,8 @@ module _ (s : List ℕ) where
 
         pub scan_all : r3 ≡ [] → record { code = 0; at = 0; places = p; want = q.0; budget = q.1 } ≡ sheet_of (read_sheet s)
         scan_all h = ap (λ (n : ℕ). record { code = 0; at = 0; places = n; want = q.0; budget = q.1 }) (sym counted_places) ∙ sym (ap (λ (o : Outcome Held). sheet_of o) (scan_accepted h))
+
+-- a refusal that is handed on
+pub told_refused : (r : Result Sheet Refusal) (e : Refusal) (o : Outcome Held) → IsErrAnd r (λ x. x ≡ e) → o ≡ refusal_of e → told r ≡ sheet_of o
+told_refused (Ok _) e o k h = absurd k
+told_refused (Err x) e o k h = ap (λ (x : Refusal). sheet_of (refusal_of x)) k ∙ sym (ap (λ (o : Outcome Held). sheet_of o) h)

@@ -4,14 +4,15 @@ use Prim.Native.Nat.{ℕ, zero, suc, ◌+◌, ◌-◌, ◌*◌, ◌≤◌, ◌<�
 use mathlib.Core.Path.{◌≡◌, refl, ap, ap₂, sym, ◌∙◌, subst}
 use mathlib.Core.List.{List, [], ◌∷◌, ◌++◌, append_assoc, append-nil}
 use native.Mathlib.Nat.{mul-add, mul-one}
-use native.Mathlib.Decide.{ℕ_discrete}
 use native.Mathlib.Omega.{arith}
 use lib.ListN.{length, drop, length-append}
 use Rattle.lines.specs.Line.{Got, refused, got}
 use Rattle.lines.specs.Part.{next, Part, several}
-use Rattle.readers.specs.Readers.{Read}
-use Rattle.readers.proofs.ReadLaws.{tell_refused, tell_got}
-use Rattle.scan.specs.Read.{passed, Fine}
+use Rattle.std.specs.Prelude.{Result, Ok, Err, IsOk}
+use Rattle.readers.specs.declared.Line.{Line}
+use Rattle.readers.specs.declared.Refusal.{Refusal}
+use Rattle.readers.specs.Readers.{Reads}
+use Rattle.scan.specs.Read.{Fine}
 
 -- parts that were read before others
 abbrev pub onto : {A : Type 0} → List A → Got (List A) → Got (List A)
@@ -106,17 +107,7 @@ module _ {A : Type 0} (q : ℕ → Part A) (each : ℕ) (same : (i : ℕ) (a : A
       ∙ ap (λ (m : ℕ). onto pre ((several q m i).read (first + each * i) (drop from s))) k
       ∙ ap (λ (m : List A). got m (drop from s)) (append-nil pre)
 
--- what is told of parts without their values
-pub passed_refusal : {A : Type 0} (s : List ℕ) (g : Got A) (c l : ℕ) → (g ≡ refused c l) × (51 ≤ c) → Read s (passed g) 0 tt c l 0 tt
-passed_refusal s g c l w = tell_refused s (passed g) tt c l (ap passed w.0) w.1
-
-pub passed_well : {A : Type 0} (s : List ℕ) (g : Got A) (a : A) (to : ℕ) → g ≡ got a (drop to s) → to ≤ length s → Read s (passed g) 0 tt 0 0 to tt
-passed_well s g a to e h = tell_got s (passed g) tt tt to (ap passed e) h
-
--- in parts that read well a refusal is never met
-pub fine_code : {A : Type 0} (g : Got A) (code at : ℕ) → Fine g → ((code ≡ 0 → ⊥) → g ≡ refused code at) → code ≡ 0
-fine_code g code at f r = go (ℕ_discrete code 0)
-  where
-    go : Dec (code ≡ 0) → code ≡ 0
-    go (yes e) = e
-    go (no n) = absurd (subst Fine (r n) f)
+-- parts that read well are not refused
+pub fine_ok : {A : Type 0} (s : List ℕ) (g : Got A) (r : Result (Line A) Refusal) → Reads s g r → Fine g → IsOk r
+fine_ok s g (Ok l) h f = refl
+fine_ok s g (Err e) h f = absurd (subst Fine h f)

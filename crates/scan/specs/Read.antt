@@ -1,11 +1,13 @@
 -- What reading a place sheet into lent columns comes to.
 -- Assumes nothing.
-use Rattle.std.specs.Prelude.{ℕ, min, ◌≡◌, List, map, ℤ, length}
+use Rattle.std.specs.Prelude.{ℕ, min, ◌≡◌, List, map, ℤ, length, Result, Ok, Err}
 use Rattle.std.proofs.Math.Decide.{dec_le}
 use Rattle.table.specs.Table.{places}
 use Rattle.lines.specs.Line.{Got, refused, got}
 use Rattle.lines.specs.Part.{Outcome, fault, accepted}
 use Rattle.rows.specs.Sheet.{Held, Place, read_sheet}
+use Rattle.readers.specs.declared.Refusal.{Refusal}
+use Rattle.readers.specs.Readers.{code_of}
 use Rattle.scan.specs.declared.Sheet.{Sheet}
 use Rattle.scan.specs.Lent.{over}
 
@@ -26,6 +28,14 @@ reading s x y kit = within (room_in x y kit) (read_sheet s)
 abbrev pub sheet_of : Outcome Held → Sheet
 sheet_of (fault c l) = record { code = c; at = l; places = 0; want = 0; budget = 0 }
 sheet_of (accepted h) = record { code = 0; at = 0; places = places h.table; want = h.want; budget = h.budget }
+
+-- a refusal with its number; and what is told of a sheet or of its refusal
+abbrev pub refusal_of : Refusal → Outcome Held
+refusal_of r = fault (code_of r.fault) r.line
+
+abbrev pub told : Result Sheet Refusal → Sheet
+told (Ok s) = s
+told (Err r) = sheet_of (refusal_of r)
 
 -- a column afterwards: a refusal changes nothing
 abbrev pub column_after : {A : Type 0} → (Held → List A) → Outcome Held → List A → List A

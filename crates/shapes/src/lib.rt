@@ -1,107 +1,110 @@
 // The shape of a lent tree held against the rules 21 to 23: its counts, its runs, and what its entries name.
 #![tactic(auto)]
 
-ghost use Rattle.std.specs.Prelude.{◌≡◌, List, [], ◌∷◌, ℕ, ◌+◌, ◌≤◌, ◌<◌, length, get_or};
-ghost use Rattle.verdict.specs.Rules.{AllHold, verdict};
-ghost use Rattle.tree.specs.Rules.{rule21, rules22, rule23};
+ghost use Rattle.std.specs.Prelude.{◌≡◌, [], ◌∷◌, ◌+◌, ◌≤◌, ◌<◌, eqb, length};
+ghost use Rattle.verdict.specs.Rules.{AllHold, said, verdict};
+ghost use Rattle.tree.specs.Tree.{end_of, thing};
+ghost use Rattle.tree.specs.Rules.{lengths, rule21, rules22, rule23, MayName};
 ghost use Rattle.tree.specs.Lent;
-ghost use Rattle.tree.specs.Lent.{shape, Columns};
+ghost use Rattle.tree.specs.Lent.{Columns, Decides};
+
+use tree::{Shape, Tree};
+use verdict::{Reason, Refusal};
 
 // Internal: rule 21: the counts go with the table, and no column is too short. No sum wraps for absurd counts.
-pub fn counted(places: usize, nodes: usize, listed: usize, l: tree::Lengths) -> verdict::Verdict
+pub fn counted(places: usize, tree: &Tree) -> Result<(), Refusal>
     requires { places ≤ 4096 }
-    ensures { result ≡ verdict (rule21 places nodes listed l ∷ []) }
+    ensures { said result ≡ verdict (rule21 places tree.now.shape.nodes tree.now.shape.listed (lengths tree.now) ∷ []) }
 {
-    let broken = verdict::Verdict { code: 21, at: 0 };
-    if 2048 < nodes {
-        return broken;
+    let shape = &tree.shape;
+    let nodes = shape.nodes;
+    let listed = shape.listed;
+    let wrong = Refusal {
+        reason: Reason::WrongCounts,
+        at: 0,
+    };
+    if nodes > 2048 {
+        return Err(wrong);
     }
     if nodes == 0 {
         if places != 0 || listed != 0 {
-            return broken;
+            return Err(wrong);
         }
-    } else {
-        if places == 0 || listed != places + nodes - 1 {
-            return broken;
-        }
+    } else if places == 0 || listed != places + nodes - 1 {
+        return Err(wrong);
     }
-    if !tree::has_room(nodes, listed, l) {
-        return broken;
+    if !tree::has_room(nodes, listed, tree.lengths()) {
+        return Err(wrong);
     }
-    verdict::Verdict { code: 0, at: 0 }
+    Ok(())
 }
 
 // Internal: rule 22: each level is 1 to 6, each count 1 to 16, and the runs lie end to end.
-pub fn runs(
-    nodes: usize,
-    listed: usize,
-    level: &[u8],
-    start: &[u16],
-    count: &[u8],
-) -> verdict::Verdict
-    requires { (nodes ≤ 2048) × ((nodes ≤ length level.now) × ((nodes ≤ length start.now) × (nodes ≤ length count.now))) }
-    ensures { (entries : List ℕ) → result ≡ verdict (rules22 (shape nodes listed level.now start.now count.now entries)) }
+pub fn runs(s: &Shape) -> Result<(), Refusal>
+    requires { (s.now.nodes ≤ 2048) × ((s.now.nodes ≤ length s.now.level) × ((s.now.nodes ≤ length s.now.start) × (s.now.nodes ≤ length s.now.count))) }
+    ensures { said result ≡ verdict (rules22 s.now) }
 {
-    let mut n: usize = 0;
+    let nodes = s.nodes;
     let mut due: usize = 0;
-    while n < nodes {
-        let l = level[n];
-        let s = tree::wide16(start[n]);
-        let c = tree::wide8(count[n]);
-        if l < 1 || 6 < l || c < 1 || 16 < c || s != due {
-            return verdict::Verdict { code: 22, at: n };
+    for n in 0..nodes {
+        let level = s.level[n];
+        let start = usize::from(s.start[n]);
+        let count = usize::from(s.count[n]);
+        if level < 1 || level > 6 || count < 1 || count > 16 || start != due {
+            return Err(Refusal {
+                reason: Reason::WrongRuns,
+                at: n,
+            });
         }
-        due += c;
-        n += 1;
+        due += count;
     }
-    if due != listed {
-        return verdict::Verdict {
-            code: 22,
+    if due != s.listed {
+        return Err(Refusal {
+            reason: Reason::WrongRuns,
             at: nodes,
-        };
+        });
     }
-    verdict::Verdict { code: 0, at: 0 }
+    Ok(())
 }
 
 // Internal: the node whose run index i stands in, where the index before stands in the run of n.
-pub fn moved(start: &[u16], count: &[u8], n: usize, i: usize) -> usize
-    requires { (n < length start.now) × (n < length count.now) }
-    ensures { result ≡ Lent.moved (get_or start.now n 0 + get_or count.now n 0) n i }
+pub fn moved(s: &Shape, n: usize, i: usize) -> usize
+    requires { (n < length s.now.start) × (n < length s.now.count) }
+    ensures { result ≡ Lent.moved (end_of s.now n) n i }
 {
-    let end = tree::wide16(start[n]) + tree::wide8(count[n]);
+    let start = s.start;
+    let end = usize::from(start[n]) + usize::from(s.count[n]);
     if i == end { n + 1 } else { n }
 }
 
-// Internal: rule 23: each entry names what its node's level allows. The index i stands in the run of n.
-pub fn names(
-    places: usize,
-    nodes: usize,
-    listed: usize,
-    level: &[u8],
-    start: &[u16],
-    count: &[u8],
-    entries: &[u16],
-) -> verdict::Verdict
-    requires columns { Columns (shape nodes listed level.now start.now count.now entries.now) }
-    requires all_hold { AllHold (rules22 (shape nodes listed level.now start.now count.now entries.now)) }
-    ensures { result ≡ verdict (rule23 places (shape nodes listed level.now start.now count.now entries.now) ∷ []) }
+// May a node of a level name an entry: a place of a leaf, else a node one level lower?
+fn may_name(places: usize, s: &Shape, level: usize, e: usize) -> bool
+    requires { s.now.nodes ≤ length s.now.level }
+    ensures { Decides result (MayName places s.now level (thing (eqb level 1) e)) }
 {
-    let mut i: usize = 0;
-    let mut n: usize = 0;
-    while i < listed {
-        let e = tree::wide16(entries[i]);
-        let l = tree::wide8(level[n]);
-        if l == 1 {
-            if places <= e {
-                return verdict::Verdict { code: 23, at: i };
-            }
-        } else {
-            if e < 1 || nodes <= e || tree::wide8(level[e]) + 1 != l {
-                return verdict::Verdict { code: 23, at: i };
-            }
-        }
-        i += 1;
-        n = moved(start, count, n, i);
+    if level == 1 {
+        e < places
+    } else {
+        e >= 1 && e < s.nodes && usize::from(s.level[e]) + 1 == level
     }
-    verdict::Verdict { code: 0, at: 0 }
+}
+
+// Internal: rule 23: each entry names what its node's level allows. The index i stands in the run of n.
+pub fn names(places: usize, s: &Shape) -> Result<(), Refusal>
+    requires columns { Columns s.now }
+    requires all_hold { AllHold (rules22 s.now) }
+    ensures { said result ≡ verdict (rule23 places s.now ∷ []) }
+{
+    let mut n: usize = 0;
+    for i in 0..s.listed {
+        let e = usize::from(s.entries[i]);
+        if !may_name(places, s, usize::from(s.level[n]), e) {
+            return Err(Refusal {
+                reason: Reason::WrongEntry,
+                at: i,
+            });
+        }
+        n = moved(s, n, i + 1);
+    }
+    Ok(())
 }

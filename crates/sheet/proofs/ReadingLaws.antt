@@ -1,6 +1,6 @@
 -- What reading into lent columns comes to, from what the whole sheet told.
 -- Assumes nothing.
-use Prim.Native.Nat.{ℕ, ◌+◌, ◌*◌, ◌≤◌, ◌<◌}
+use Prim.Native.Nat.{ℕ, ◌+◌, ◌*◌, ◌≤◌}
 use mathlib.Core.Path.{◌≡◌, refl, ap, sym, ◌∙◌, subst}
 use mathlib.Core.List.{List, [], ◌∷◌, map}
 use native.Mathlib.Decide.{dec_le}
@@ -51,20 +51,9 @@ sheet_codes s c l e =
 abbrev pub Done : Outcome Held → Sheet → List ℤ → List ℤ → List ℕ → List ℤ → List ℤ → List ℕ → Type 0
 Done o r x y k x' y' k' = (r ≡ sheet_of o) × ((x' ≡ column_after (λ h. h.table.x) o x) × ((y' ≡ column_after (λ h. h.table.y) o y) × (k' ≡ column_after (λ h. h.table.kit) o k)))
 
--- a refusal changes nothing
-unchanged : (o : Outcome Held) (c l : ℕ) (r : Sheet) (x y : List ℤ) (k : List ℕ) → o ≡ fault c l → r ≡ sheet_of (fault c l) → Done o r x y k x y k
-unchanged o c l r x y k e f = subst (λ (o : Outcome Held). Done o r x y k x y k) (sym e) (f, (refl, (refl, refl)))
-
 module _ (s : List ℕ) (r : Sheet) (e : r ≡ sheet_of (read_sheet s)) where
   result : (o : Outcome Held) → read_sheet s ≡ o → r ≡ sheet_of o
   result o f = e ∙ ap (λ (o : Outcome Held). sheet_of o) f
-
-  pub done_refused : (room : ℕ) (x y : List ℤ) (k : List ℕ) → (r.code ≡ 0 → ⊥) → Done (within room (read_sheet s)) r x y k x y k
-  done_refused room x y k n = go (read_sheet s) refl
-    where
-      go : (o : Outcome Held) → read_sheet s ≡ o → Done (within room (read_sheet s)) r x y k x y k
-      go (fault c l) f = unchanged (within room (read_sheet s)) c l r x y k (ap (within room) f) (result (fault c l) f)
-      go (accepted h) f = absurd (n (ap (λ (r : Sheet). r.code) (result (accepted h) f)))
 
   -- a sheet that is not refused is accepted
   pub is_accepted : r.code ≡ 0 → (h : Held) × ((read_sheet s ≡ accepted h) × (r ≡ sheet_of (accepted h)))
@@ -75,14 +64,6 @@ module _ (s : List ℕ) (r : Sheet) (e : r ≡ sheet_of (read_sheet s)) where
       go (accepted h) f = (h, (f, result (accepted h) f))
 
 module _ (s : List ℕ) (h : Held) (e : read_sheet s ≡ accepted h) where
-  -- 54 comes after all other faults
-  pub done_54 : (room : ℕ) (r : Sheet) (x y : List ℤ) (k : List ℕ) → r ≡ sheet_of (fault 54 0) → room < places h.table → Done (within room (read_sheet s)) r x y k x y k
-  done_54 room r x y k f n = unchanged (within room (read_sheet s)) 54 0 r x y k (ap (within room) e ∙ go (dec_le (places h.table) room)) f
-    where
-      go : (d : Dec (places h.table ≤ room)) → ◌≡◌ {A = Outcome Held} (elim d [ yes _ ↦ accepted h | no _ ↦ fault 54 0 ]) (fault 54 0)
-      go (yes l) = absurd (omega arith)
-      go (no _) = refl
-
   fits : (room : ℕ) → places h.table ≤ room → within room (read_sheet s) ≡ accepted h
   fits room l = ap (within room) e ∙ go (dec_le (places h.table) room)
     where

@@ -13,12 +13,6 @@ use Rattle.rows.specs.Sheet.{Held, sheet_bytes, asked}
 use Rattle.rows.proofs.SizeLaws.{bytes_enough}
 use Rattle.sheet.specs.Write.{rule54, write_rules, afterwards}
 
--- the sheet at the start of a buffer is written over it
-pub sheet_put : (h : Held) {o : List ℕ} {r : ℕ} {o₁ : List ℕ} → Puts o 0 (sheet_bytes h) r o₁ → (r, o₁) ≡ afterwards 0 h o
-sheet_put h {o} p =
-    let e : 0 + length (sheet_bytes h) ≡ length (sheet_bytes h) = omega arith in
-    ap₂ (λ (n : ℕ) (l : List ℕ). (n, l)) (p.end ∙ e) (p.bytes ∙ ap (λ (k : ℕ). sheet_bytes h ++ drop k o) e)
-
 -- in a refusal all is kept
 pub kept : (code : ℕ) (h : Held) (before : List ℕ) → (code ≡ 0 → ⊥) → (0, before) ≡ afterwards code h before
 kept zero h before n = absurd (n refl)

@@ -10,7 +10,7 @@ use Rattle.plane.specs.Plane.{outside}
 use Rattle.table.specs.Table.{table, dec_even, dec_in_range, dec_ranged}
 use Rattle.verdict.specs.First.{first_not}
 use Rattle.verdict.specs.Rules.{lowest, verdict, says}
-use Rattle.verdict.specs.declared.Verdict.{Verdict}
+use Rattle.verdict.specs.Rules.{Verdict}
 use Rattle.lines.specs.Text.{decimal, hex, signed, width, width_in}
 use Rattle.lines.specs.Part.{several}
 use Rattle.rows.specs.Sheet.{Held, place_part, query_part, sheet_part, sheet_bytes, asked}

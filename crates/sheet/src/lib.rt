@@ -1,54 +1,29 @@
 // The place sheet: written into a lent buffer, and read into lent columns.
 #![tactic(auto)]
 
-ghost use Rattle.std.specs.Prelude.{◌≡◌, ◌≤◌, min, length};
-ghost use Rattle.verdict.specs.Rules.{says, verdict};
-ghost use Rattle.table.specs.Table.{table};
+ghost use Rattle.std.specs.Prelude.{◌≡◌, ◌≤◌, length};
+ghost use Rattle.verdict.specs.Rules.{said, verdict};
 ghost use Rattle.rows.specs.Sheet.{asked, read_sheet};
 ghost use Rattle.scan.specs.Read.{reading, sheet_of, column_after, column_taken};
-ghost use Rattle.sheet.specs.Write.{write_rules, afterwards};
+ghost use Rattle.sheet.specs.Write.{write_rules, written, afterwards};
 
-// What the writer answers: code 0 and its byte count, or a refusal and 0 bytes.
-#[derive(Drop)]
-pub struct Written {
-    pub code: u8,
-    pub at: usize,
-    pub bytes: usize,
-}
+use table::Table;
+use verdict::{Reason, Refusal};
 
-// Writes the sheet of a table, a want and a budget at the start of a lent buffer: 11, 12, 54; in a refusal nothing is changed.
+// Writes the sheet of a table, a want and a budget at the start of a lent buffer, and gives its bytes: 11, 12, 54; in a refusal nothing is changed.
 // 70 bytes and 54 for each place are always enough: 221,254 for a full table.
-pub fn write(x: &[i32], y: &[i32], kit: &[u64], want: u64, budget: u32, out: &mut [u8]) -> Written
-    ensures at_value { says result.code result.at ≡ verdict (write_rules (asked (table x.now y.now kit.now) want budget) (length out.old)) }
-    ensures out_after { (result.bytes, out.new) ≡ afterwards result.code (asked (table x.now y.now kit.now) want budget) out.old }
+pub fn write(t: &Table, want: u64, budget: u32, out: &mut [u8]) -> Result<usize, Refusal>
+    ensures refused { said result ≡ verdict (write_rules (asked t.now want budget) (length out.old)) }
+    ensures out_after { (written result, out.new) ≡ afterwards (said result).code (asked t.now want budget) out.old }
 {
-    let v = table::check(x, y, kit);
-    if v.code != 0 {
-        return Written {
-            code: v.code,
-            at: v.at,
-            bytes: 0,
-        };
-    }
-    if out.len() < pieces::size_of(x, y, budget) {
-        return Written {
-            code: 54,
+    table::check(t)?;
+    if out.len() < pieces::size_of(t, budget) {
+        return Err(Refusal {
+            reason: Reason::TooShort,
             at: 0,
-            bytes: 0,
-        };
+        });
     }
-    let bytes = pieces::put_sheet(out, x, y, kit, want, budget);
-    Written {
-        code: 0,
-        at: 0,
-        bytes,
-    }
-}
-
-fn least(a: usize, b: usize) -> usize
-    ensures { result ≡ min a b }
-{
-    if a < b { a } else { b }
+    Ok(pieces::put_sheet(out, t, want, budget))
 }
 
 // Reads a sheet: 51 to 53 at the lowest line that is refused; then 54 where a lent column is shorter than the place count.
@@ -63,11 +38,11 @@ pub fn read(src: &[u8], x: &mut [i32], y: &mut [i32], kit: &mut [u64]) -> scan::
     if r.code != 0 {
         return r;
     }
-    if least(x.len(), least(y.len(), kit.len())) < r.places {
+    if x.len().min(y.len().min(kit.len())) < r.places {
         return scan::refused(54, 0);
     }
-    let h = scan::head_of(src);
-    scan::fill(src, h.next, h.places, x, y, kit);
+    let head = scan::head_of(src).unwrap();
+    let _ = scan::fill(src, head.next, head.value, x, y, kit);
     r
 }
 
@@ -79,10 +54,11 @@ pub fn take_in(src: &[u8], x: &mut [i32], y: &mut [i32], kit: &mut [u64]) -> sca
     ensures column_taken_2 { column_taken (λ h. h.table.y) (read_sheet src.now) y.old y.new }
     ensures column_taken_3 { column_taken (λ h. h.table.kit) (read_sheet src.now) kit.old kit.new }
 {
-    let h = scan::head_of(src);
-    if h.code != 0 {
-        return scan::refused(h.code, h.at);
+    match scan::head_of(src) {
+        Ok(head) => {
+            let p = scan::fill(src, head.next, head.value, x, y, kit);
+            scan::ending(src, p, head.value)
+        }
+        Err(refusal) => scan::Sheet::from(refusal),
     }
-    let p = scan::fill(src, h.next, h.places, x, y, kit);
-    scan::ending(src, p, h.places)
 }

@@ -2,29 +2,55 @@
 #![tactic(auto)]
 
 ghost use Rattle.std.specs.Prelude.{◌≡◌};
-ghost use Rattle.verdict.specs.Rules.{verdict};
-ghost use Rattle.table.specs.Table.{table, table_rules};
+ghost use Rattle.verdict.specs.Rules.{said, verdict};
+ghost use Rattle.table.specs.Table.{places, table_rules};
 
-// Internal: 11 where the columns differ in length or are too long, 12 at the lowest place that is out of range.
-pub fn check(x: &[i32], y: &[i32], kit: &[u64]) -> verdict::Verdict
-    ensures { result ≡ verdict (table_rules (table x.now y.now kit.now)) }
+use std::marker::Model;
+use verdict::{Reason, Refusal};
+
+// The lent columns of a table; clauses see the table that they are.
+#[derive(Drop)]
+pub struct Table<'a> {
+    pub x: &'a [i32],
+    pub y: &'a [i32],
+    pub kit: &'a [u64],
+}
+
+impl<'a> Model for Table<'a> {
+    ghost use Rattle.table.specs.Table;
+
+    ghost Value = { Table.Table };
+
+    ghost view = { λ t. Table.table t.x.now t.y.now t.kit.now };
+}
+
+impl<'a> Table<'a> {
+    // Internal: how many places there are.
+    pub fn places(&self) -> usize
+        ensures { result ≡ places self.now }
+    {
+        self.x.len()
+    }
+}
+
+// Internal: uneven where the columns differ in length or are too long, out of range at the lowest place that is.
+pub fn check(t: &Table) -> Result<(), Refusal>
+    ensures { said result ≡ verdict (table_rules t.now) }
 {
-    let places = x.len();
-    if y.len() != places {
-        return verdict::Verdict { code: 11, at: 0 };
+    let places = t.x.len();
+    if t.y.len() != places || t.kit.len() != places || places > 4096 {
+        return Err(Refusal {
+            reason: Reason::UnevenColumns,
+            at: 0,
+        });
     }
-    if kit.len() != places {
-        return verdict::Verdict { code: 11, at: 0 };
-    }
-    if 4096 < places {
-        return verdict::Verdict { code: 11, at: 0 };
-    }
-    let mut p = 0;
-    while p < x.len() {
-        if plane::is_off(x[p], y[p]) {
-            return verdict::Verdict { code: 12, at: p };
+    for p in 0..places {
+        if plane::is_off(t.x[p], t.y[p]) {
+            return Err(Refusal {
+                reason: Reason::OutOfRange,
+                at: p,
+            });
         }
-        p += 1;
     }
-    verdict::Verdict { code: 0, at: 0 }
+    Ok(())
 }

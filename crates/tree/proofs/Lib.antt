@@ -10,3 +10,4 @@ pub mod BelowLaws
 pub mod TreeLaws
 pub mod RangeLaws
 pub mod Soundings
+mod JoinLaws

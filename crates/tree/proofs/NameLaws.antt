@@ -42,25 +42,11 @@ module _ {p : ℕ} {s : Shape} {i n l e : ℕ} (g : Reading p s i n l e) where
   names_is : ◌≡◌ {A = Type 0} (Names p s i) (Tested p s l e)
   names_is = rw (g.level, g.entry, owner_is g.runs i n (g.walked.stands g.listed))
 
-  well_named : Tested p s l e → Walked s (Names p s) (i + 1) (moved (end_of s n) n (i + 1))
+  pub well_named : Tested p s l e → Walked s (Names p s) (i + 1) (moved (end_of s n) n (i + 1))
   well_named h = walked_more g.runs (Names p s) g.walked g.listed (rw names_is h)
 
-  misnamed : (Tested p s l e → ⊥) → says 23 i ≡ verdict (rule23 p s ∷ [])
+  pub misnamed : (Tested p s l e → ⊥) → says 23 i ≡ verdict (rule23 p s ∷ [])
   misnamed h = breaks_at (rule23 p s) refl [] i g.listed g.walked.past (λ q. h (rw names_is at q))
-
-  module _ (leaf : l ≡ 1) where
-    pub place_named : e < p → Walked s (Names p s) (i + 1) (moved (end_of s n) n (i + 1))
-    place_named h = well_named ((tested_place p s l e leaf).1 h)
-
-    pub place_misnamed : p ≤ e → says 23 i ≡ verdict (rule23 p s ∷ [])
-    place_misnamed h = misnamed (λ q. omega (arith, (tested_place p s l e leaf).0 q))
-
-  module _ (inner : l ≡ 1 → ⊥) where
-    pub node_named : (1 ≤ e) × ((e < s.nodes) × (suc (level_of s e) ≡ l)) → Walked s (Names p s) (i + 1) (moved (end_of s n) n (i + 1))
-    node_named h = well_named ((tested_node p s l e inner).1 h)
-
-    pub node_misnamed : ((1 ≤ e) × ((e < s.nodes) × (suc (level_of s e) ≡ l)) → ⊥) → says 23 i ≡ verdict (rule23 p s ∷ [])
-    node_misnamed h = misnamed (λ q. h ((tested_node p s l e inner).0 q))
 
 pub all_named : (p : ℕ) {s : Shape} {i n : ℕ} → Walked s (Names p s) i n → s.listed ≤ i → says 0 0 ≡ verdict (rule23 p s ∷ [])
 all_named p {s} g e = holds_all (rule23 p s) refl (λ k b. g.past k (omega arith))

@@ -6,8 +6,7 @@ use mathlib.Core.Logic.{◌↔◌}
 use mathlib.Core.List.{List, [], ◌∷◌, ◌++◌}
 use native.Mathlib.Decide.{dec_lt}
 use native.Mathlib.Omega.{arith}
-use Rattle.verdict.specs.Rules.{Rule, Holds, AllHold, lowest, verdict, says}
-use Rattle.verdict.specs.declared.Verdict.{Verdict}
+use Rattle.verdict.specs.Rules.{Rule, Verdict, Holds, AllHold, lowest, verdict, says}
 use Rattle.verdict.proofs.FirstLaws.{First, first_found, first_is, first_none, first_all}
 
 pub code_of : Verdict → ℕ

@@ -1,5 +1,6 @@
 -- What the contracts of every crate cite of refusals.
 pub mod Decided
 pub mod First
+pub mod Numbers
 pub mod Rules
 pub mod Families

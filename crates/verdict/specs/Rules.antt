@@ -1,9 +1,10 @@
 -- Rules, and what a check of a list of them says.
 -- Assumes nothing.
-use Rattle.std.specs.Prelude.{ℕ, ◌+◌, ◌≤◌, ◌<◌, List, [], ◌∷◌}
+use Rattle.std.specs.Prelude.{ℕ, ◌+◌, ◌≤◌, ◌<◌, List, [], ◌∷◌, Result, Ok, Err}
 use Rattle.std.proofs.Math.Decide.{dec_lt}
 use Rattle.verdict.specs.First.{first_not}
-use Rattle.verdict.specs.declared.Verdict.{Verdict}
+use Rattle.verdict.specs.declared.Refusal.{Refusal}
+use Rattle.verdict.specs.Numbers.{number}
 
 -- A rule: the number that reports a break of it, the places at which it is looked at, what it asks of a place, and that this is decided.
 pub record Rule : Type 1 where
@@ -27,8 +28,18 @@ unfoldable pub lowest : Rule → ℕ
 unfolding first_not
 lowest r = first_not r.decides r.from r.many
 
+-- What a call says: the refusal's number and where, both 0 where nothing is refused.
+pub record Verdict : Type 0 where
+  pub code : ℕ
+  pub at : ℕ
+
 abbrev pub says : ℕ → ℕ → Verdict
 says code at = record { code = code; at = at }
+
+-- what a result says, whatever else it holds
+abbrev pub said : {A : Type 0} → Result A Refusal → Verdict
+said (Ok _) = says 0 0
+said (Err r) = says (number r.reason) r.at
 
 -- the first broken rule, with the lowest place where it breaks: a later rule is looked at only when all earlier ones hold
 unfoldable pub verdict : List Rule → Verdict

@@ -1,3 +1,3 @@
 -- The walk meets its contract.
-pub mod RootLaws
 pub mod BridgeLaws
+pub mod RootLaws

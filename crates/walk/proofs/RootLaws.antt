@@ -1,6 +1,7 @@
 -- The candidate that is the root for each kind, as the code has it.
 -- Assumes nothing.
-use mathlib.Core.Path.{◌≡◌, refl, sym, ap, subst, ◌∙◌}
+use mathlib.Core.Path.{◌≡◌, refl, sym, ap, ap₂, subst, ◌∙◌}
+use mathlib.Core.Bool.{true, false, false≢true}
 use mathlib.Core.List.{List, ◌∷◌, map}
 use mathlib.Core.Option.{none}
 use Prim.Native.Nat.{ℕ, zero, suc, ◌≤◌, ◌<◌}
@@ -9,11 +10,28 @@ use lib.IntN.{pos}
 use lib.ListN.{length, take, get_or, replicate, length-replicate, get_or-replicate}
 use lib.Seq.{ext_get_or, get_or-take, length-take-le}
 use Rattle.table.specs.Table.{Table}
-use Rattle.tree.specs.Tree.{Tree, Sides, place, node, level}
+use Rattle.tree.specs.Tree.{Tree, Shape, Sides, Thing, place, node, level, level_of, box_at}
 use Rattle.tree.specs.Lent.{sides}
-use Rattle.closest.specs.Candidate.{member, topmost, group_of}
+use Rattle.closest.specs.Candidate.{member, topmost, group_of, entries_of}
 use Rattle.closest.specs.Walk.{roots}
-use Rattle.groups.specs.Members.{Member, member_of, members_of, nobody, members_at, thing_of, things_of, Real, Fair, Passes}
+use Rattle.std.specs.Prelude.{None}
+use Rattle.plane.specs.declared.Box.{Box}
+use Rattle.tree.specs.Rules.{lengths, Room}
+use Rattle.walks.specs.Allowance.{Stand, stand}
+use Rattle.closest.specs.Walk.{begins, stands_at}
+use Rattle.closest.proofs.AnswerLaws.{begun_of}
+use Rattle.members.specs.declared.Want.{Want}
+use Rattle.members.specs.declared.Members.{Members}
+use Rattle.members.specs.Columns.{eight_of}
+use Rattle.members.specs.Best.{Best, best_in}
+use Rattle.groups.specs.Opening.{Opened, Led}
+use Rattle.groups.specs.Leads.{leads}
+use Rattle.groups.proofs.EntryLaws.{meets}
+use Rattle.groups.proofs.TurnLaws.{taken_spent, taken_open}
+use Rattle.groups.proofs.OpenLaws.{opened_same, led_same}
+use Rattle.walk.specs.State.{state_of}
+use Rattle.walk.proofs.BridgeLaws.{stood}
+use Rattle.groups.specs.Members.{wanted, candidate, Few, Member, member_of, members_of, nobody, members_at, thing_of, things_of, Real, Fair, Passes}
 use Rattle.groups.proofs.EntryLaws.{node_high}
 use Rattle.members.specs.Levels.{levels_at}
 use Rattle.members.proofs.LevelLaws.{from, levels_same, top_at}
@@ -94,3 +112,71 @@ module _ (m : ℕ) (a : Member) (few : m ≤ 8) where
       (λ i l.
       let h : i < m = omega (arith, l, size) in
       get_or-take m columns i nobody h ∙ at i h ∙ sym (get_or-take m (replicate 8 a) i nobody h ∙ get_or-replicate 8 i a nobody (omega arith)))
+
+-- the walk from the root on
+module _ {t : Table} {tree : Tree} (p : Passes t tree) (w : Want) (few : Few w.m w.kinds) (eight : length w.kinds ≡ 8) (begun : begins t tree (wanted w) ≡ true) where
+  abbrev nothing : Best
+  nothing = best_in None
+
+  some : 0 < tree.shape.nodes
+  some = (begun_of (wanted w) begun).some
+
+  -- the root is a node with a level and a box
+  pub root_in : {s : Sides} → s ≡ tree.sides → (0 < length s.x_lo) × ((0 < length s.x_hi) × ((0 < length s.y_lo) × (0 < length s.y_hi)))
+  root_in v =
+      let room : Room tree.shape.nodes tree.shape.listed (lengths tree) = (meets p).counted.room in (
+        omega (arith, some, room.x_lo, ap (λ (s : Sides). length s.x_lo) v),
+        (
+          omega (arith, some, room.x_hi, ap (λ (s : Sides). length s.x_hi) v),
+          (omega (arith, some, room.y_lo, ap (λ (s : Sides). length s.y_lo) v), omega (arith, some, room.y_hi, ap (λ (s : Sides). length s.y_hi) v)),
+        ),
+      )
+
+  pub level_in : {s : Shape} → s ≡ tree.shape → 0 < length s.level
+  level_in v =
+      let room : Room tree.shape.nodes tree.shape.listed (lengths tree) = (meets p).counted.room in
+      omega (arith, some, room.level, ap (λ (s : Shape). length s.level) v)
+
+  many : length (wanted w) ≡ w.m
+  many = length-take-le w.m w.kinds (omega (arith, eight, few.most))
+
+  things : things_of (take w.m (replicate 8 (member_of t tree (node 0)))) ≡ roots (wanted w)
+  things = things_roots p some (wanted w) w.m few.most many
+
+  roots_so : roots (wanted w) ≡ replicate w.m (node 0)
+  roots_so = ap (λ (n : ℕ). replicate n (node 0)) many
+
+  top : topmost tree.shape (roots (wanted w)) ≡ 0
+  top = ap (topmost tree.shape) roots_so ∙ top_roots p some (wanted w) w.m few.most few.some
+
+  whole : group_of tree.shape (roots (wanted w)) ≡ none
+  whole = ap (group_of tree.shape) roots_so ∙ whole_roots p some (wanted w) w.m few.most few.some
+
+  opened : Opened t tree (wanted w) w.m (replicate 8 (member_of t tree (node 0))) 0 nothing
+  opened = record {
+    fair = fair_roots p some (wanted w) w.m few.most many;
+    is = sym (ap (topmost tree.shape) things ∙ top);
+    whole = ap (group_of tree.shape) things ∙ whole;
+    near = λ e. absurd (false≢true e);
+    eight = refl;
+  }
+
+  -- the allowance is spent before it
+  pub none_walked : w.allowance ≤ 0 → record { steps = 0; spent = true; best = nothing } ≡ state_of t (stands_at t tree (wanted w) w.allowance)
+  none_walked h = stood (meets p) (wanted w) begun w.allowance (stand 0 true nothing) (sym (taken_spent t tree (wanted w) w.allowance (roots (wanted w)) 0 nothing h))
+
+  module _ {l : ℕ} (e : l ≡ level_of tree.shape 0) {b : Box} (is : b ≡ box_at tree.sides 0) {c : Members} (all : c ≡ eight_of 0 b) where
+    abbrev cand : List Member
+    cand = candidate w.m 0 l c
+
+    so : take w.m cand ≡ take w.m (replicate 8 (member_of t tree (node 0)))
+    so = ap (λ (a : Members). take w.m (candidate w.m 0 l a)) all ∙ columns_roots w.m (record { level = l; number = 0; at = b }) few.most ∙ ap₂ (λ (v : ℕ) (d : Box). take w.m (replicate 8 (record { level = v; number = 0; at = d }))) e is
+
+    pub roots_opened : Opened t tree (wanted w) w.m cand 0 nothing
+    roots_opened = opened_same (sym so) opened
+
+    pub roots_walked : {after : Stand Best} → Led t tree (wanted w) w.allowance w.m cand 0 (stand 1 false nothing) after → 0 < w.allowance → record { steps = after.steps; spent = after.spent; best = after.known } ≡ state_of t (stands_at t tree (wanted w) w.allowance)
+    roots_walked {after} led h =
+        let from = ap₂ (λ (q : List Thing) (i : ℕ). leads t tree (wanted w) w.allowance q i (entries_of tree.shape (member q i)) (stand 1 false nothing)) things (sym top) in
+        stood (meets p) (wanted w) begun w.allowance after
+        ((led_same so led).led ∙ from ∙ sym (taken_open t tree (wanted w) w.allowance (roots (wanted w)) 0 nothing h (λ e. absurd (false≢true e)) whole))

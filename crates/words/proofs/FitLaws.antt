@@ -1,36 +1,38 @@
--- Words held against their limits, one after the other.
+-- Words held against their limits.
 -- Assumes nothing.
-use mathlib.Core.Path.{◌≡◌, sym, subst}
-use mathlib.Core.Bool.{Bool, true, false, true≢false, cond}
-use mathlib.Core.List.{List, [], ◌∷◌}
-use Prim.Native.Nat.{ℕ, zero, suc, ◌+◌, ◌≤◌, ◌<◌}
-use native.Mathlib.Numerals.{add-one}
+use Rattle.std.proofs.Common.{◌≡◌, ◌∙◌, refl, sym, ap, subst, Bool, true, false, cond, ◌&&◌, leb, ltb, List, [], ◌∷◌, ℕ, zero, suc, ◌+◌, ◌≤◌, ◌<◌, length, get_or, arith}
+use Rattle.std.specs.List.{list_all, zip}
+use mathlib.Core.Bool.{true≢false}
 use native.Mathlib.Nat.{not-suc-le-zero, le_of_suc-le-suc}
 use native.Mathlib.Decide.{dec_le}
-use native.Mathlib.Omega.{arith}
-use lib.Dec.{ltb}
-use lib.ListN.{length, get_or, drop, drop_of_length-le}
-use lib.Seq.{drop-cons}
-use borrow.Author.Tests.{lt-ltb, le-ltb}
-use Rattle.words.specs.Lines.{fit}
+use borrow.Author.Tests.{lt-ltb, le-ltb, lt-leb, le-leb}
+use Rattle.words.specs.Lines.{limits, fit}
 
--- from k on
-module _ (limits words : List ℕ) (k : ℕ) where
-  pub fit_missing : k < length limits → length words ≤ k → fit (drop k limits) (drop k words) ≡ false
-  unfolding fit
-  fit_missing h n = rw (drop-cons limits k 0 h, drop_of_length-le words n, fit)
+-- a word is not above its limit
+both : (most word : ℕ) (rest : Bool) → leb word most && rest ≡ cond (ltb most word) false rest
+both most word rest = go (dec_le word most)
+  where
+    go : Dec (word ≤ most) → leb word most && rest ≡ cond (ltb most word) false rest
+    go (yes l) = rw (le-leb word most l, le-ltb most word l)
+    go (no n) = rw (lt-leb word most (omega arith), lt-ltb most word (omega arith))
 
-  pub fit_above : k < length limits → k < length words → get_or limits k 0 < get_or words k 0 → fit (drop k limits) (drop k words) ≡ false
-  unfolding fit
-  fit_above h m l = rw (drop-cons limits k 0 h, drop-cons words k 0 m, fit, lt-ltb (get_or limits k 0) (get_or words k 0) l)
+pub fit_all : (limits words : List ℕ) → length limits ≤ length words → list_all (λ (p : ℕ × ℕ). leb p.0 p.1) (zip words limits) ≡ fit limits words
+unfolding fit
+fit_all [] [] h = refl
+fit_all [] (word ∷ words) h = refl
+fit_all (most ∷ limits) [] h = absurd (omega arith)
+fit_all (most ∷ limits) (word ∷ words) h =
+    ap (λ b. leb word most && b) (fit_all limits words (omega arith)) ∙ both most word (fit limits words)
 
-  pub fit_next : k < length limits → k < length words → get_or words k 0 ≤ get_or limits k 0 → fit (drop k limits) (drop k words) ≡ fit (drop (k + 1) limits) (drop (k + 1) words)
-  unfolding fit
-  fit_next h m l = rw (add-one, drop-cons limits k 0 h, drop-cons words k 0 m, fit, le-ltb (get_or limits k 0) (get_or words k 0) l)
-
-  pub fit_done : length limits ≤ k → fit (drop k limits) (drop k words) ≡ true
-  unfolding fit
-  fit_done h = rw (drop_of_length-le limits h, fit)
+pub fit_short : (limits words : List ℕ) → length words < length limits → fit limits words ≡ false
+unfolding fit
+fit_short [] words h = absurd (omega arith)
+fit_short (most ∷ limits) [] h = refl
+fit_short (most ∷ limits) (word ∷ words) h = ap (cond (ltb most word) false) (fit_short limits words (omega arith)) ∙ go (ltb most word)
+  where
+    go : (b : Bool) → cond b false false ≡ false
+    go true = refl
+    go false = refl
 
 -- what fits is there, and is not above its limit
 not_above : (most word : ℕ) (rest : Bool) → cond (ltb most word) false rest ≡ true → (word ≤ most) × (rest ≡ true)
@@ -48,3 +50,18 @@ fit_at (most ∷ limits) (word ∷ words) e zero h = (omega arith, (not_above mo
 fit_at (most ∷ limits) (word ∷ words) e (suc k) h =
     let r = fit_at limits words (not_above most word (fit limits words) e).1 k (le_of_suc-le-suc h) in
     (omega (arith, r.0), r.1)
+
+-- the words of the eight places
+pub place_at : (words : List ℕ) → fit limits words ≡ true → (i : ℕ) → i < 8 → (2 + i < length words) × (get_or words (2 + i) 0 ≤ 65535)
+place_at words e i h = (omega (arith, (fit_at limits words e (2 + i) (omega arith)).0), omega (arith, (fit_at limits words e (2 + i) (omega arith)).1, wide i h))
+  where
+    wide : (i : ℕ) → i < 8 → get_or limits (2 + i) 0 ≡ 65535
+    wide zero h = refl
+    wide (suc zero) h = refl
+    wide (suc (suc zero)) h = refl
+    wide (suc (suc (suc zero))) h = refl
+    wide (suc (suc (suc (suc zero)))) h = refl
+    wide (suc (suc (suc (suc (suc zero))))) h = refl
+    wide (suc (suc (suc (suc (suc (suc zero)))))) h = refl
+    wide (suc (suc (suc (suc (suc (suc (suc zero))))))) h = refl
+    wide (suc (suc (suc (suc (suc (suc (suc (suc i)))))))) h = absurd (omega arith)

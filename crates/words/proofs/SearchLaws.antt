@@ -11,10 +11,10 @@ use Rattle.kit.specs.Kit.{kinds, padded}
 use Rattle.table.specs.Table.{Table}
 use Rattle.tree.specs.Tree.{Tree}
 use Rattle.verdict.specs.Rules.{verdict}
-use Rattle.verdict.specs.declared.Verdict.{Verdict}
+use Rattle.verdict.specs.Rules.{Verdict}
 use Rattle.closest.specs.Walk.{begins, stands_at}
 use Rattle.walk.specs.State.{best_of, state_of}
-use Rattle.walk.specs.declared.State.{State}
+use Rattle.walk.specs.State.{State}
 use Rattle.found.specs.Search.{refused, said, outcome, search_rules, searched}
 use Rattle.found.specs.declared.Found.{Found}
 use Rattle.words.specs.Words.{flag, found_words}

@@ -14,10 +14,6 @@ use Rattle.words.specs.Words.{flag}
 pub relaid : {a b : List ℕ} (old : List ℕ) {r : ℕ} {out : List ℕ} → a ≡ b → (r ≡ laid a old) × (out ≡ holding a old) → (r ≡ laid b old) × (out ≡ holding b old)
 relaid old e h = (h.0 ∙ ap (λ (w : List ℕ). laid w old) e, h.1 ∙ ap (λ (w : List ℕ). holding w old) e)
 
-pub as_flag : (b : Bool) → bool_byte b ≡ flag b
-as_flag true = refl
-as_flag false = refl
-
 -- eight elements, one by one
 pub eight : (l : List ℕ) → length l ≡ 8 → (get_or l 0 0 ∷ get_or l 1 0 ∷ get_or l 2 0 ∷ get_or l 3 0 ∷ get_or l 4 0 ∷ get_or l 5 0 ∷ get_or l 6 0 ∷ get_or l 7 0 ∷ []) ≡ l
 eight (a ∷ b ∷ c ∷ d ∷ e ∷ f ∷ g ∷ h ∷ []) l = refl

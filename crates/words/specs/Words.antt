@@ -1,8 +1,8 @@
 -- The numbers and words in which an answer reaches C.
 -- Assumes nothing.
 use Rattle.std.specs.Prelude.{Bool, cond, List, [], ◌∷◌, ◌++◌, ℕ}
-use Rattle.plane.specs.declared.Measured.{Measured}
-use Rattle.verdict.specs.declared.Verdict.{Verdict}
+use Rattle.plane.specs.Plane.{Measured}
+use Rattle.verdict.specs.Rules.{Verdict}
 use Rattle.verdict.specs.declared.From.{From}
 use Rattle.verdict.specs.declared.From.TheVariants.{Query, Table, Tree, Search, Room, Sheet, NoRefusal}
 use Rattle.found.specs.declared.Found.{Found}

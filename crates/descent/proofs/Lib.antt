@@ -1,0 +1,2 @@
+-- The candidates that come of an opened one.
+pub mod BelowLaws

@@ -1,0 +1,2 @@
+-- What the contracts of filling cite.
+pub mod Lent

@@ -1,0 +1,2 @@
+-- What the contracts of our own tree cite.
+pub mod Own

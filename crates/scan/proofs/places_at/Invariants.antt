@@ -1,0 +1,8 @@
+use Rattle.std.proofs.Common.{List, drop}
+use Rattle.rows.specs.Sheet.{Place, place_part}
+use Rattle.parts.proofs.PlaceLaws.{place_lines}
+use Rattle.scan.proofs.SeveralLaws.{Passed}
+use Rattle.scan.proofs.places_at.Given as goal
+
+abbrev pub invariant-loop-i : goal.invariant-loop-i
+invariant-loop-i l = (r : List Place) × Passed place_part 4 place_lines l.src (drop l.at l.src) l.places 3 l.i l.next r

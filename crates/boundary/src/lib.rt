@@ -13,6 +13,7 @@ ghost use Rattle.tree.specs.Rules.{check_rules};
 ghost use Rattle.tree.specs.Lent.{shape, sides, tree};
 ghost use Rattle.found.specs.Search.{searched};
 ghost use Rattle.rows.specs.Sheet.{asked};
+ghost use Rattle.scan.specs.Read;
 ghost use Rattle.scan.specs.Read.{reading, sheet_of, column_after};
 ghost use Rattle.answer.specs.Lent.{laid, holding};
 ghost use Rattle.reply.specs.Reply.{printed};
@@ -21,6 +22,7 @@ ghost use Rattle.boundary.specs.Kept.{given, build_leaves, build_words, columns,
 ghost use Rattle.words.specs.Lines.{lines_of};
 
 use build::{Built, Columns};
+use scan::Sheet;
 use table::Table;
 use tree::{Shape, Sides, Tree};
 use verdict::Refusal;
@@ -42,6 +44,16 @@ fn check_words(r: Result<(), Refusal>) -> [u64; 2]
     match r {
         Ok(()) => [0, 0],
         Err(e) => [u64::from(e.reason.code()), e.at as u64],
+    }
+}
+
+// The words of a sheet that was read.
+fn read_words(r: Result<Sheet, Refusal>) -> [u64; 5]
+    ensures { result ≡ sheet_words (Read.told r) }
+{
+    match r {
+        Ok(s) => [0, 0, s.places as u64, s.want, u64::from(s.budget)],
+        Err(e) => [u64::from(e.reason.code()), e.at as u64, 0, 0, 0],
     }
 }
 
@@ -274,15 +286,8 @@ pub extern "C" fn longhorbi_read(
     if answer.len() < 5 {
         return 0;
     }
-    let s = sheet::read(src, x, y, kit);
-    let words = [
-        u64::from(s.code),
-        s.at as u64,
-        s.places as u64,
-        s.want,
-        u64::from(s.budget),
-    ];
-    words::lay(&words, answer)
+    let into = scan::Columns { x, y, kit };
+    words::lay(&read_words(sheet::read(src, into)), answer)
 }
 
 // The lines for the words of a search of a want, at the start of a lent buffer; gives how many bytes they are.

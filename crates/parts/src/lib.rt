@@ -6,7 +6,8 @@ ghost use Rattle.readers.specs.Readers.{Reads, ReadsAs};
 ghost use Rattle.rows.specs.Sheet.{place_part, query_part};
 ghost use Rattle.parts.specs.Parts.{head_part, row, pair, PlaceReads};
 
-use readers::{Fault, Line, Refusal};
+use readers::Line;
+use verdict::{Reason, Refusal};
 
 // A place on a sheet.
 #[derive(Clone, Copy)]
@@ -85,8 +86,10 @@ fn careful_place(src: &[u8], at: usize, i: usize, line: usize) -> Result<Line<Pl
 {
     let number = readers::line_number(src, at, line, b"place=", 4095)?;
     if number.value as usize != i {
-        let fault = Fault::OutOfForm;
-        return Err(Refusal { fault, line });
+        return Err(Refusal {
+            reason: Reason::NotInForm,
+            at: line,
+        });
     }
     let x = readers::line_coordinate(src, number.next, line + 1, b"x=")?;
     let y = readers::line_coordinate(src, x.next, line + 2, b"y=")?;

@@ -2,23 +2,17 @@
 -- Assumes nothing.
 use mathlib.Core.Path.{◌≡◌, refl, sym, ap, ap₂, ◌∙◌}
 use Prim.Native.Nat.{ℕ}
-use native.Mathlib.Omega.{arith}
 use Rattle.std.proofs.Common.{Result, Ok, Err}
 use Rattle.plane.specs.Plane.{Measured, told}
 use Rattle.verdict.specs.Rules.{Verdict, said, says}
 use Rattle.verdict.specs.Numbers.{number}
 use Rattle.verdict.specs.declared.Reason.{Reason}
 use Rattle.verdict.specs.declared.Refusal.{Refusal}
+use Rattle.verdict.proofs.SaidLaws.{numbered}
+use Rattle.readers.proofs.ReadLaws.{number_one}
 use Rattle.build.specs.declared.Built.{Built}
 use Rattle.build.specs.Lent.{counts}
 use Rattle.sheet.specs.Write.{written}
-
--- each reason has a number of its own, which is not 0
-number_one : (r s : Reason) → number r ≡ number s → r ≡ s
-number_one r s e = grind arith
-
-numbered : (r : Reason) → number r ≡ 0 → ⊥
-numbered r e = grind arith
 
 abbrev code_of : Verdict → ℕ
 code_of v = v.code

@@ -1,11 +1,9 @@
 -- For every call that a user makes: it is answered whatever it is given, any two results that its contract allows are equal, and so is all that was lent, afterwards.
 -- `Pre` and `Post` are the contracts as the toolchain reads them from the sources. Assumes nothing.
-use mathlib.Core.Path.{◌≡◌, refl, sym, ap, ap₂, ◌∙◌}
+use mathlib.Core.Path.{◌≡◌, refl, sym, ap, ◌∙◌}
 use mathlib.Core.List.{List}
 use Prim.Native.Nat.{ℕ}
-use lib.IntN.{ℤ}
 use Rattle.plane.proofs.RootLaws.{root_unique}
-use Rattle.table.specs.Table.{table}
 use Rattle.tree.specs.Tree.{Tree}
 use Rattle.tree.specs.Lent.{shape, tree}
 use Rattle.verdict.specs.Rules.{Verdict, said}
@@ -20,14 +18,13 @@ use Rattle.verdict.proofs.family.Reads as family
 use Rattle.inspect.proofs.check.Reads as check
 use Rattle.build.proofs.build.Reads as build
 use Rattle.search.proofs.search.Reads as search
+use Rattle.scan.specs.Lent as sheet-lent
+use Rattle.scan.proofs.ScanLaws.{told_one as sheet_one}
 use Rattle.sheet.proofs.write.Reads as write
 use Rattle.sheet.proofs.read.Reads as read
 use Rattle.answer.proofs.lines.Reads as lines
 use Rattle.reply.proofs.reply.Reads as reply
 use Rattle.promises.specs.Settles.{AsksNothing, Settles, nothing}
-
-same_columns : {x x' y y' : List ℤ} {kit kit' : List ℕ} → x ≡ x' → y ≡ y' → kit ≡ kit' → table x y kit ≡ table x' y' kit'
-same_columns e f g = ap₂ (λ (x : List ℤ) (s : List ℤ × List ℕ). table x s.0 s.1) e (ap₂ (λ (y : List ℤ) (kit : List ℕ). (y, kit)) f g)
 
 -- the squared distance of two points
 pub squared_total : AsksNothing squared.Pre
@@ -90,8 +87,8 @@ write_settled κs a r r' b b' h k =
 pub read_total : AsksNothing read.Pre
 read_total κs a = tt
 
-pub read_settled : Settles (λ b. table b.1.0.now b.1.1.0.now b.1.1.1.0.now) read.Post
-read_settled κs a r r' b b' h k = (h.0 ∙ sym k.0, same_columns (h.1.0 ∙ sym k.1.0) (h.1.1.0 ∙ sym k.1.1.0) (h.1.1.1 ∙ sym k.1.1.1))
+pub read_settled : Settles (λ b. sheet-lent.left b.1.0) read.Post
+read_settled κs a r r' b b' h k = (sheet_one r r' (h.0 ∙ sym k.0), h.1 ∙ sym k.1)
 
 -- the lines of an answer: a buffer is lent
 pub lines_total : AsksNothing lines.Pre

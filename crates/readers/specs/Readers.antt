@@ -2,18 +2,11 @@
 -- Assumes nothing.
 use Rattle.std.specs.Prelude.{ℕ, ◌+◌, ◌≤◌, ◌<◌, ◌≡◌, List, length, take, drop, SomeIff, MatchOption, Option, Result, MatchResult}
 use denote.Ref.{Bor}
-use Rattle.readers.specs.declared.Fault.{Fault}
-use Rattle.readers.specs.declared.Fault.TheVariants.{Missing, OutOfForm, BytesAfter}
-use Rattle.readers.specs.declared.Refusal.{Refusal}
+use Rattle.verdict.specs.declared.Refusal.{Refusal}
+use Rattle.verdict.specs.Numbers.{number}
 use Rattle.readers.specs.declared.Line.{Line}
 use Rattle.lines.specs.Form.{Form, InForm}
 use Rattle.lines.specs.Line.{line, none, cut, longest, due, Got, refused, got}
-
--- the number of each fault
-abbrev pub code_of : Fault → ℕ
-code_of Missing = 51
-code_of OutOfForm = 52
-code_of BytesAfter = 53
 
 -- the line that t begins with has n bytes, with no line feed among them; or there is none
 abbrev pub Ends : List ℕ → Option ℕ → Type 0
@@ -29,7 +22,7 @@ Due s at key r = MatchOption r (due key (drop at s) ≡ none) (λ l. (l.next ≤
 
 -- what is told of bytes s that were read: the number and the line of a refusal; or the value, seen in some way, and where the next line begins
 abbrev pub ReadsAs : {A B : Type 0} → (B → A) → List ℕ → Got A → Result (Line B) Refusal → Type 0
-ReadsAs view s g r = MatchResult r (λ l. (l.next ≤ length s) × (g ≡ got (view l.value) (drop l.next s))) (λ e. g ≡ refused (code_of e.fault) e.line)
+ReadsAs view s g r = MatchResult r (λ l. (l.next ≤ length s) × (g ≡ got (view l.value) (drop l.next s))) (λ e. g ≡ refused (number e.reason) e.at)
 
 abbrev pub Reads : {A : Type 0} → List ℕ → Got A → Result (Line A) Refusal → Type 0
 Reads s g r = ReadsAs (λ v. v) s g r

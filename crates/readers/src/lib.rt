@@ -5,38 +5,9 @@ ghost use Rattle.std.specs.Prelude.{◌≡◌, ℕ, ◌≤◌, length, drop, ◌
 ghost use Rattle.lines.specs.Text.{NoZero, unglyph, Digit};
 ghost use Rattle.lines.specs.Form.{Form, natural, coordinate, bits, word};
 ghost use Rattle.lines.specs.Line.{read_line};
-ghost use Rattle.readers.specs.Readers.{Ends, Due, Parses, Reads, code_of};
+ghost use Rattle.readers.specs.Readers.{Ends, Due, Parses, Reads};
 
-// Why a line, or a sheet, is refused.
-#[derive(Clone, Copy, Debug, PartialEq, Eq)]
-pub enum Fault {
-    // The line is missing, over 40 bytes, without line feed, or of another key than due.
-    Missing,
-    // Its value is not in form or range.
-    OutOfForm,
-    // Bytes follow the last line.
-    BytesAfter,
-}
-
-impl Fault {
-    // Internal: the refusal's number.
-    pub fn code(self) -> u8
-        ensures { result ≡ code_of self }
-    {
-        match self {
-            Fault::Missing => 51,
-            Fault::OutOfForm => 52,
-            Fault::BytesAfter => 53,
-        }
-    }
-}
-
-// A refusal: why, and at which line.
-#[derive(Clone, Copy, Debug, PartialEq, Eq)]
-pub struct Refusal {
-    pub fault: Fault,
-    pub line: usize,
-}
+use verdict::{Reason, Refusal};
 
 // A line, or some in a row, that was read: its value, and where the next begins.
 #[derive(Drop)]
@@ -90,12 +61,16 @@ pub fn read<F: ValueForm>(
     ensures { Reads s.now (read_line key.now (F.form form.now) line (drop at s.now)) result }
 {
     let Some(found) = value_at(s, at, key) else {
-        let fault = Fault::Missing;
-        return Err(Refusal { fault, line });
+        return Err(Refusal {
+            reason: Reason::NoLine,
+            at: line,
+        });
     };
     let Some(value) = form.parse(found.value) else {
-        let fault = Fault::OutOfForm;
-        return Err(Refusal { fault, line });
+        return Err(Refusal {
+            reason: Reason::NotInForm,
+            at: line,
+        });
     };
     Ok(Line {
         next: found.next,

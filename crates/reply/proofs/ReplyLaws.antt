@@ -16,9 +16,8 @@ use Rattle.found.specs.declared.Found.{Found}
 use Rattle.lines.specs.Part.{Outcome, fault, accepted}
 use Rattle.rows.specs.Sheet.{Held, read_sheet}
 use Rattle.rows.proofs.SheetLaws.{written_read}
-use Rattle.scan.specs.declared.Sheet.{Sheet}
 use Rattle.scan.specs.Lent.{over}
-use Rattle.scan.specs.Read.{sheet_of, column_taken}
+use Rattle.scan.specs.Read.{Told, sheet_of, column_taken}
 use Rattle.sheet.proofs.ReadingLaws.{is_accepted}
 use Rattle.report.specs.Answer.{answer_lines}
 use Rattle.reply.specs.Reply.{most, printed_for, printed}
@@ -54,7 +53,7 @@ filled {n = n} l before {column} e k =
     record { long = omega arith; start = ap (take n) e ∙ take_at l (drop (length l) before) n k }
 
 -- what the columns hold once a sheet is accepted
-pub record Took (s : List ℕ) (r : Sheet) (x' y' : List ℤ) (kit' : List ℕ) : Type 0 where
+pub record Took (s : List ℕ) (r : Told) (x' y' : List ℤ) (kit' : List ℕ) : Type 0 where
   pub held : Held
   pub is : read_sheet s ≡ accepted held
   pub result : r ≡ sheet_of (accepted held)
@@ -63,24 +62,24 @@ pub record Took (s : List ℕ) (r : Sheet) (x' y' : List ℤ) (kit' : List ℕ) 
   pub y : Holds r.places y' held.table.y
   pub kit : Holds r.places kit' held.table.kit
 
-module _ {s : List ℕ} {r : Sheet} {x y : List ℤ} {kit : List ℕ} (k : Took s r x y kit) where
+module _ {s : List ℕ} {r : Told} {x y : List ℤ} {kit : List ℕ} (k : Took s r x y kit) where
   pub read_table : table (take r.places x) (take r.places y) (take r.places kit) ≡ k.held.table
   read_table = rw (k.x.start, k.y.start, k.kit.start)
 
   pub reply_found : (f : Found) → let t = table (take r.places x) (take r.places y) (take r.places kit) in f ≡ searched t (built t) r.want r.budget → answer_lines f r.want ≡ printed_for (read_sheet s)
   reply_found f e =
       ap (λ (f : Found). answer_lines f r.want) (e ∙ ap (λ (t : Table). searched t (built t) r.want r.budget) read_table)
-      ∙ ap (λ (q : Sheet). answer_lines (searched k.held.table (built k.held.table) q.want q.budget) q.want) k.result
+      ∙ ap (λ (q : Told). answer_lines (searched k.held.table (built k.held.table) q.want q.budget) q.want) k.result
       ∙ sym (ap printed_for k.is)
 
-module _ (s : List ℕ) (r : Sheet) (is : r ≡ sheet_of (read_sheet s)) where
+module _ (s : List ℕ) (r : Told) (is : r ≡ sheet_of (read_sheet s)) where
   -- a sheet that is refused
   pub reply_refused : (r.code ≡ 0 → ⊥) → answer_lines (refused r.code r.at) 0 ≡ printed_for (read_sheet s)
   reply_refused n = go (read_sheet s) is
     where
       go : (o : Outcome Held) → r ≡ sheet_of o → answer_lines (refused r.code r.at) 0 ≡ printed_for o
-      go (fault c l) e = ap (λ (q : Sheet). answer_lines (refused q.code q.at) 0) e
-      go (accepted h) e = absurd (n (ap (λ (q : Sheet). q.code) e))
+      go (fault c l) e = ap (λ (q : Told). answer_lines (refused q.code q.at) 0) e
+      go (accepted h) e = absurd (n (ap (λ (q : Told). q.code) e))
 
   -- a sheet that is accepted
   pub took : r.code ≡ 0 → (x x' y y' : List ℤ) (kit kit' : List ℕ) → column_taken (λ h. h.table.x) (read_sheet s) x x' →
@@ -88,7 +87,7 @@ module _ (s : List ℕ) (r : Sheet) (is : r ≡ sheet_of (read_sheet s)) where
   took z x x' y y' kit kit' e f g =
       let a = is_accepted s r is z in
       let h = a.0 in
-      let n : r.places ≡ places h.table = ap (λ (q : Sheet). q.places) a.1.1 in
+      let n : r.places ≡ places h.table = ap (λ (q : Told). q.places) a.1.1 in
       let even = valid_even (valid_held s h a.1.0) in
       record {
         held = h;

@@ -1,30 +1,47 @@
 // What the program answers to the bytes of its input.
 #![tactic(auto)]
 
-ghost use Rattle.std.specs.Prelude.{◌≡◌, ◌≤◌, length};
+ghost use Rattle.std.specs.Prelude.{◌≡◌};
+ghost use Rattle.table.specs.Table.{table};
 ghost use Rattle.rows.specs.Sheet.{read_sheet};
+ghost use Rattle.scan.specs.Lent.{Room};
+ghost use Rattle.verdict.specs.Numbers.{number};
+ghost use Rattle.found.specs.Search.{refused};
+ghost use Rattle.report.specs.Answer.{answer_lines};
 ghost use Rattle.answer.specs.Lent.{laid, holding};
 ghost use Rattle.reply.specs.Reply.{printed_for, printed};
 
+use scan::Columns;
 use table::Table;
+use verdict::{Reason, Refusal};
+
+// The answer to a refusal.
+fn refuse(refusal: Refusal, out: &mut [u8]) -> usize
+    ensures value { result ≡ laid (answer_lines (refused (number refusal.reason) refusal.at) 0) out.old }
+    ensures out_after { out.new ≡ holding (answer_lines (refused (number refusal.reason) refusal.at) 0) out.old }
+{
+    answer::lines(found::refuse(refusal.reason.code(), refusal.at), 0, out)
+}
 
 // The answer to a sheet, which is read into the lent columns.
 fn reply_in(input: &[u8], x: &mut [i32], y: &mut [i32], kit: &mut [u64], out: &mut [u8]) -> usize
-    requires { (4096 ≤ length x.old) × ((4096 ≤ length y.old) × (4096 ≤ length kit.old)) }
+    requires { Room 4096 (table x.old y.old kit.old) }
     ensures value { result ≡ laid (printed_for (read_sheet input.now)) out.old }
     ensures out_after { out.new ≡ holding (printed_for (read_sheet input.now)) out.old }
 {
-    let s = sheet::take_in(input, x, y, kit);
-    if s.code != 0 {
-        return answer::lines(found::refuse(s.code, s.at), 0, out);
+    let columns = Columns { x, y, kit };
+    match sheet::take_in(input, columns) {
+        Err(refusal) => refuse(refusal, out),
+        Ok(s) => {
+            let t = Table {
+                x: &x[..s.places],
+                y: &y[..s.places],
+                kit: &kit[..s.places],
+            };
+            let found = own::search_table(&t, s.want, s.budget);
+            answer::lines(found, s.want, out)
+        }
     }
-    let t = Table {
-        x: &x[..s.places],
-        y: &y[..s.places],
-        kit: &kit[..s.places],
-    };
-    let found = own::search_table(&t, s.want, s.budget);
-    answer::lines(found, s.want, out)
 }
 
 // What the program prints for its input, at the start of a lent buffer; gives how many bytes that is.
@@ -34,7 +51,11 @@ pub fn reply(input: &[u8], out: &mut [u8]) -> usize
     ensures out_after { out.new ≡ holding (printed input.now) out.old }
 {
     if input.len() > 65536 {
-        return answer::lines(found::refuse(55, 0), 0, out);
+        let too_long = Refusal {
+            reason: Reason::TooLong,
+            at: 0,
+        };
+        return refuse(too_long, out);
     }
     let mut x = [0; 4096];
     let mut y = [0; 4096];

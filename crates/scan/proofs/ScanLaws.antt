@@ -16,9 +16,13 @@ use Rattle.rows.proofs.RowLaws.{several_length, rows_columns}
 use Rattle.rows.proofs.SheetLaws.{lawful_place}
 use Rattle.parts.proofs.PlaceLaws.{place_lines}
 use Rattle.std.specs.Prelude.{Result, Ok, Err, IsErrAnd}
-use Rattle.readers.specs.declared.Refusal.{Refusal}
+use Rattle.verdict.specs.declared.Refusal.{Refusal}
+use Rattle.verdict.specs.Numbers.{number}
+use Rattle.verdict.specs.declared.Reason.{Reason}
+use Rattle.verdict.proofs.SaidLaws.{numbered}
+use Rattle.readers.proofs.ReadLaws.{number_one}
 use Rattle.scan.specs.declared.Sheet.{Sheet}
-use Rattle.scan.specs.Read.{sheet_of, refusal_of, told, passed}
+use Rattle.scan.specs.Read.{Told, sheet_of, told, passed}
 use Rattle.scan.proofs.SeveralLaws.{pair, several_lines}
 
 -- what is read after the head, and after the places
@@ -131,10 +135,18 @@ module _ (s : List ℕ) where
         unfolding read_sheet read_all
         scan_accepted h = ap (ended sheet_part) (query_read ∙ ap (λ (t : List ℕ). got whole t) h)
 
-        pub scan_all : r3 ≡ [] → record { code = 0; at = 0; places = p; want = q.0; budget = q.1 } ≡ sheet_of (read_sheet s)
-        scan_all h = ap (λ (n : ℕ). record { code = 0; at = 0; places = n; want = q.0; budget = q.1 }) (sym counted_places) ∙ sym (ap (λ (o : Outcome Held). sheet_of o) (scan_accepted h))
+        pub scan_all : r3 ≡ [] → told (Ok (record { places = p; want = q.0; budget = q.1 })) ≡ sheet_of (read_sheet s)
+        scan_all h = ap (λ (n : ℕ). told (Ok (record { places = n; want = q.0; budget = q.1 }))) (sym counted_places) ∙ sym (ap (λ (o : Outcome Held). sheet_of o) (scan_accepted h))
 
 -- a refusal that is handed on
-pub told_refused : (r : Result Sheet Refusal) (e : Refusal) (o : Outcome Held) → IsErrAnd r (λ x. x ≡ e) → o ≡ refusal_of e → told r ≡ sheet_of o
+pub told_refused : (r : Result Sheet Refusal) (e : Refusal) (o : Outcome Held) → IsErrAnd r (λ x. x ≡ e) → o ≡ fault (number e.reason) e.at → told r ≡ sheet_of o
 told_refused (Ok _) e o k h = absurd k
-told_refused (Err x) e o k h = ap (λ (x : Refusal). sheet_of (refusal_of x)) k ∙ sym (ap (λ (o : Outcome Held). sheet_of o) h)
+told_refused (Err x) e o k h = ap (λ (x : Refusal). told (Err x)) k ∙ sym (ap (λ (o : Outcome Held). sheet_of o) h)
+
+-- any two results that tell the same are equal
+pub told_one : (r q : Result Sheet Refusal) → told r ≡ told q → r ≡ q
+told_one (Ok x) (Ok y) e = ap (λ (t : Told). Ok (record { places = t.places; want = t.want; budget = t.budget })) e
+told_one (Ok x) (Err f) e = absurd (numbered f.reason (sym (ap (λ (t : Told). t.code) e)))
+told_one (Err x) (Ok y) e = absurd (numbered x.reason (ap (λ (t : Told). t.code) e))
+told_one (Err x) (Err f) e =
+    ap₂ (λ (a : Reason) (l : ℕ). Err (record { reason = a; at = l })) (number_one x.reason f.reason (ap (λ (t : Told). t.code) e)) (ap (λ (t : Told). t.at) e)

@@ -10,7 +10,7 @@ use Rattle.lines.specs.Line.{Got, refused, got}
 use Rattle.lines.specs.Part.{next, Part, several}
 use Rattle.std.specs.Prelude.{Result, Ok, Err, IsOk}
 use Rattle.readers.specs.declared.Line.{Line}
-use Rattle.readers.specs.declared.Refusal.{Refusal}
+use Rattle.verdict.specs.declared.Refusal.{Refusal}
 use Rattle.readers.specs.Readers.{Reads}
 use Rattle.scan.specs.Read.{Fine}
 

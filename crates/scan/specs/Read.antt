@@ -2,12 +2,12 @@
 -- Assumes nothing.
 use Rattle.std.specs.Prelude.{ℕ, min, ◌≡◌, List, map, ℤ, length, Result, Ok, Err}
 use Rattle.std.proofs.Math.Decide.{dec_le}
-use Rattle.table.specs.Table.{places}
+use Rattle.table.specs.Table.{Table, table, places}
 use Rattle.lines.specs.Line.{Got, refused, got}
 use Rattle.lines.specs.Part.{Outcome, fault, accepted}
-use Rattle.rows.specs.Sheet.{Held, Place, read_sheet}
-use Rattle.readers.specs.declared.Refusal.{Refusal}
-use Rattle.readers.specs.Readers.{code_of}
+use Rattle.rows.specs.Sheet.{Held, Place, x_of, y_of, word_of, read_sheet}
+use Rattle.verdict.specs.declared.Refusal.{Refusal}
+use Rattle.verdict.specs.Numbers.{number}
 use Rattle.scan.specs.declared.Sheet.{Sheet}
 use Rattle.scan.specs.Lent.{over}
 
@@ -24,23 +24,34 @@ within room (accepted h) = elim (dec_le (places h.table) room) [ yes _ ↦ accep
 abbrev pub reading : List ℕ → List ℤ → List ℤ → List ℕ → Outcome Held
 reading s x y kit = within (room_in x y kit) (read_sheet s)
 
--- the result: place count, want and budget are 0 in a refusal
-abbrev pub sheet_of : Outcome Held → Sheet
+abbrev pub reading_in : List ℕ → Table → Outcome Held
+reading_in s t = reading s t.x t.y t.kit
+
+-- what is told of a sheet: code 0 and at 0; or the code and the line of a refusal, where place count, want and budget are 0
+pub record Told : Type 0 where
+  pub code : ℕ
+  pub at : ℕ
+  pub places : ℕ
+  pub want : ℕ
+  pub budget : ℕ
+
+abbrev pub sheet_of : Outcome Held → Told
 sheet_of (fault c l) = record { code = c; at = l; places = 0; want = 0; budget = 0 }
 sheet_of (accepted h) = record { code = 0; at = 0; places = places h.table; want = h.want; budget = h.budget }
 
--- a refusal with its number; and what is told of a sheet or of its refusal
-abbrev pub refusal_of : Refusal → Outcome Held
-refusal_of r = fault (code_of r.fault) r.line
-
-abbrev pub told : Result Sheet Refusal → Sheet
-told (Ok s) = s
-told (Err r) = sheet_of (refusal_of r)
+-- what a result tells
+abbrev pub told : Result Sheet Refusal → Told
+told (Ok s) = record { code = 0; at = 0; places = s.places; want = s.want; budget = s.budget }
+told (Err r) = record { code = number r.reason; at = r.at; places = 0; want = 0; budget = 0 }
 
 -- a column afterwards: a refusal changes nothing
 abbrev pub column_after : {A : Type 0} → (Held → List A) → Outcome Held → List A → List A
 column_after f (fault c l) before = before
 column_after f (accepted h) before = over (f h) before
+
+-- and the three of them
+abbrev pub columns_after : Outcome Held → Table → Table
+columns_after o t = table (column_after (λ h. h.table.x) o t.x) (column_after (λ h. h.table.y) o t.y) (column_after (λ h. h.table.kit) o t.kit)
 
 -- what was read, without its value
 abbrev pub passed : {A : Type 0} → Got A → Got (Unit {0})
@@ -57,7 +68,14 @@ abbrev pub stored : {A : Type 0} → (Place → A) → Got (List Place) → List
 stored f (refused c l) before after = Unit {0}
 stored f (got l rest) before after = after ≡ over (map f l) before
 
+abbrev pub Stored : Got (List Place) → Table → Table → Type 0
+Stored g t after = stored x_of g t.x after.x × (stored y_of g t.y after.y × stored word_of g t.kit after.kit)
+
 -- the same of a whole sheet
 abbrev pub column_taken : {A : Type 0} → (Held → List A) → Outcome Held → List A → List A → Type 0
 column_taken f (fault c l) before after = Unit {0}
 column_taken f (accepted h) before after = after ≡ over (f h) before
+
+abbrev pub Taken : Outcome Held → Table → Table → Type 0
+Taken o t after =
+    column_taken (λ h. h.table.x) o t.x after.x × (column_taken (λ h. h.table.y) o t.y after.y × column_taken (λ h. h.table.kit) o t.kit after.kit)

@@ -3,43 +3,22 @@
 
 ghost use Rattle.std.specs.Prelude.{◌≡◌, List, ℕ, ◌≤◌, length, drop};
 ghost use Rattle.lines.specs.Line.{got};
-ghost use Rattle.lines.specs.Part.{several, fault};
+ghost use Rattle.lines.specs.Part.{several};
 ghost use Rattle.readers.specs.Readers.{Reads};
-ghost use Rattle.rows.specs.Sheet.{place_part, x_of, y_of, word_of, read_sheet};
+ghost use Rattle.rows.specs.Sheet.{place_part, read_sheet};
 ghost use Rattle.parts.specs.Parts.{head_part};
-ghost use Rattle.scan.specs.Read.{passed, stored, sheet_of, refusal_of, told};
+ghost use Rattle.scan.specs.Lent.{lent, left, Room};
+ghost use Rattle.scan.specs.Read.{passed, Stored, sheet_of, told};
 
-use readers::{Fault, Line, Refusal};
+use readers::Line;
+use verdict::{Reason, Refusal};
 
-// What a sheet comes to: code 0, or the code and the line of a refusal; place count, want and budget, 0 in a refusal.
-#[derive(Drop)]
+// What a sheet holds beside the places: how many they are, want and budget.
+#[derive(Clone, Copy)]
 pub struct Sheet {
-    pub code: u8,
-    pub at: usize,
     pub places: usize,
     pub want: u64,
     pub budget: u32,
-}
-
-// Internal: a sheet that is refused.
-pub fn refused(code: u8, at: usize) -> Sheet
-    ensures { result ≡ sheet_of (fault code at) }
-{
-    Sheet {
-        code,
-        at,
-        places: 0,
-        want: 0,
-        budget: 0,
-    }
-}
-
-impl From<Refusal> for Sheet {
-    ghost from_gives = { λ r s. s ≡ sheet_of (refusal_of r) };
-
-    fn from(refusal: Refusal) -> Sheet {
-        refused(refusal.fault.code(), refusal.line)
-    }
 }
 
 // The first pass over the places, which begin at `at` and line 3: nothing is stored.
@@ -55,22 +34,22 @@ fn places_at(src: &[u8], at: usize, places: usize) -> Result<Line<()>, Refusal>
     Ok(Line { next, value: () })
 }
 
+// The columns that are lent for the places of a sheet.
+#[derive(Drop)]
+pub struct Columns<'a> {
+    pub x: &'a mut [i32],
+    pub y: &'a mut [i32],
+    pub kit: &'a mut [u64],
+}
+
 // Internal: a pass over the places that stores each of them, up to a refusal.
-pub fn fill(
-    src: &[u8],
-    at: usize,
-    places: usize,
-    x: &mut [i32],
-    y: &mut [i32],
-    kit: &mut [u64],
-) -> Result<Line<()>, Refusal>
+pub fn fill(src: &[u8], at: usize, places: usize, into: Columns) -> Result<Line<()>, Refusal>
     requires at_in_bounds { (at ≤ length src.now) × (places ≤ 4096) }
-    requires places_in_bounds { (places ≤ length x.old) × ((places ≤ length y.old) × (places ≤ length kit.old)) }
+    requires places_in_bounds { Room places (lent into) }
     ensures read { Reads src.now (passed ((several place_part places 0).read 3 (drop at src.now))) result }
-    ensures stored { stored x_of ((several place_part places 0).read 3 (drop at src.now)) x.old x.new }
-    ensures stored_2 { stored y_of ((several place_part places 0).read 3 (drop at src.now)) y.old y.new }
-    ensures stored_3 { stored word_of ((several place_part places 0).read 3 (drop at src.now)) kit.old kit.new }
+    ensures stored { Stored ((several place_part places 0).read 3 (drop at src.now)) (lent into.entry) (left into.exit) }
 {
+    let Columns { x, y, kit } = into;
     let mut next = at;
     for i in 0..places {
         let place = parts::place_at(src, next, i, 3 + 4 * i)?;
@@ -82,42 +61,31 @@ pub fn fill(
     Ok(Line { next, value: () })
 }
 
-// All that follows the places, of which p tells: nothing may follow the query.
-fn ended(src: &[u8], p: Result<Line<()>, Refusal>, places: usize) -> Result<Sheet, Refusal>
+// Internal: all that follows the places, of which p tells: nothing may follow the query.
+pub fn ending(src: &[u8], p: Result<Line<()>, Refusal>, places: usize) -> Result<Sheet, Refusal>
     requires { (r : List ℕ) × ((head_part.read 1 src.now ≡ got places r) × Reads src.now (passed ((several place_part places 0).read 3 r)) p) }
     ensures { told result ≡ sheet_of (read_sheet src.now) }
 {
     let next = p?.next;
     let query = parts::query_at(src, next, 3 + 4 * places)?;
     if query.next < src.len() {
-        let fault = Fault::BytesAfter;
         let line = 6 + 4 * places;
-        return Err(Refusal { fault, line });
+        return Err(Refusal {
+            reason: Reason::BytesLeft,
+            at: line,
+        });
     }
     Ok(Sheet {
-        code: 0,
-        at: 0,
         places,
         want: query.value.want,
         budget: query.value.budget,
     })
 }
 
-// Internal: the same, with a refusal as a sheet that is refused.
-pub fn ending(src: &[u8], p: Result<Line<()>, Refusal>, places: usize) -> Sheet
-    requires { (r : List ℕ) × ((head_part.read 1 src.now ≡ got places r) × Reads src.now (passed ((several place_part places 0).read 3 r)) p) }
-    ensures { result ≡ sheet_of (read_sheet src.now) }
-{
-    match ended(src, p, places) {
-        Ok(sheet) => sheet,
-        Err(refusal) => Sheet::from(refusal),
-    }
-}
-
 // All that follows the head, which ends at `at` and says how many places there are: nothing is stored.
-fn rest_at(src: &[u8], at: usize, places: usize) -> Sheet
+fn rest_at(src: &[u8], at: usize, places: usize) -> Result<Sheet, Refusal>
     requires { (at ≤ length src.now) × (head_part.read 1 src.now ≡ got places (drop at src.now)) }
-    ensures { result ≡ sheet_of (read_sheet src.now) }
+    ensures { told result ≡ sheet_of (read_sheet src.now) }
 {
     ending(src, places_at(src, at, places), places)
 }
@@ -153,9 +121,9 @@ impl<'a> Reader<'a> {
     }
 
     // All that follows the head, where the reader stands.
-    fn rest(self, places: usize) -> Sheet
+    fn rest(self, places: usize) -> Result<Sheet, Refusal>
         requires { (self.at ≤ length self.src.now) × (head_part.read 1 self.src.now ≡ got places (drop self.at self.src.now)) }
-        ensures { result ≡ sheet_of (read_sheet self.entry.src.now) }
+        ensures { told result ≡ sheet_of (read_sheet self.entry.src.now) }
     {
         rest_at(self.src, self.at, places)
     }
@@ -169,19 +137,17 @@ pub fn head_of(src: &[u8]) -> Result<Line<usize>, Refusal>
 }
 
 // All that follows the head of a sheet.
-fn rest_of(src: &[u8], at: usize, places: usize) -> Sheet
+fn rest_of(src: &[u8], at: usize, places: usize) -> Result<Sheet, Refusal>
     requires { (at ≤ length src.now) × (head_part.read 1 src.now ≡ got places (drop at src.now)) }
-    ensures { result ≡ sheet_of (read_sheet src.now) }
+    ensures { told result ≡ sheet_of (read_sheet src.now) }
 {
     Reader::new(src).moved(at).rest(places)
 }
 
 // Internal: all of a sheet, of which nothing is stored.
-pub fn scan(src: &[u8]) -> Sheet
-    ensures { result ≡ sheet_of (read_sheet src.now) }
+pub fn scan(src: &[u8]) -> Result<Sheet, Refusal>
+    ensures { told result ≡ sheet_of (read_sheet src.now) }
 {
-    match head_of(src) {
-        Ok(head) => rest_of(src, head.next, head.value),
-        Err(refusal) => Sheet::from(refusal),
-    }
+    let head = head_of(src)?;
+    rest_of(src, head.next, head.value)
 }

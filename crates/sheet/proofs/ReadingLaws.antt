@@ -1,11 +1,10 @@
 -- What reading into lent columns comes to, from what the whole sheet told.
 -- Assumes nothing.
 use Prim.Native.Nat.{ℕ, ◌+◌, ◌*◌, ◌≤◌}
-use mathlib.Core.Path.{◌≡◌, refl, ap, sym, ◌∙◌, subst}
+use mathlib.Core.Path.{◌≡◌, refl, ap, ap₂, sym, ◌∙◌, subst}
 use mathlib.Core.List.{List, [], ◌∷◌, map}
 use native.Mathlib.Decide.{dec_le}
 use native.Mathlib.Omega.{arith}
-use lib.IntN.{ℤ}
 use lib.ListN.{length-map}
 use Rattle.table.specs.Table.{Table, places}
 use Rattle.lines.specs.Text.{ascii, decimal}
@@ -13,11 +12,14 @@ use Rattle.lines.specs.Form.{word, natural, coordinate, bits}
 use Rattle.lines.specs.Line.{Got, refused, got}
 use Rattle.lines.specs.Part.{and_then, after, several, Outcome, fault, accepted}
 use Rattle.lines.proofs.CodeLaws.{Codes, codes_line, codes_then, codes_viewed, codes_after, codes_before, codes_several, codes_all}
-use Rattle.rows.specs.Sheet.{Held, Writable, Place, fixed, coordinate_line, kit_line, point_part, place_part, want_line, budget_line, query_part, count_line, body_part, x_of, y_of, word_of, columns, held, counted, sheet_part, sheet_bytes, read_sheet}
+use Rattle.rows.specs.Sheet.{Held, Writable, Place, fixed, coordinate_line, kit_line, point_part, place_part, want_line, budget_line, query_part, count_line, body_part, x_of, columns, held, counted, sheet_part, sheet_bytes, read_sheet}
 use Rattle.parts.specs.Parts.{head_part}
 use Rattle.rows.proofs.SheetLaws.{read_written, written_read}
-use Rattle.scan.specs.declared.Sheet.{Sheet}
-use Rattle.scan.specs.Read.{within, sheet_of, column_after, column_taken, stored, passed, Fine}
+use Rattle.std.specs.Prelude.{Err}
+use Rattle.verdict.specs.declared.Refusal.{Refusal}
+use Rattle.verdict.specs.Numbers.{number}
+use Rattle.verdict.proofs.SaidLaws.{numbered}
+use Rattle.scan.specs.Read.{Told, told, within, sheet_of, column_after, columns_after, column_taken, stored, passed, Fine}
 use Rattle.scan.specs.Lent.{over}
 use Rattle.scan.proofs.ScanLaws.{scan_1, scan_2, scan_3, scan_53, scan_accepted, found, found_read, many}
 
@@ -47,11 +49,7 @@ unfolding read_sheet sheet_part
 sheet_codes s c l e =
     codes_all sheet_part (codes_viewed held counted (after (fixed (ascii "sheet=") (ascii "1")) body_part) (codes_after (fixed (ascii "sheet=") (ascii "1")) body_part (codes_line (ascii "sheet=") (word (ascii "1"))) codes_body)) s c l e
 
--- the result and the three columns where reading comes to o
-abbrev pub Done : Outcome Held → Sheet → List ℤ → List ℤ → List ℕ → List ℤ → List ℤ → List ℕ → Type 0
-Done o r x y k x' y' k' = (r ≡ sheet_of o) × ((x' ≡ column_after (λ h. h.table.x) o x) × ((y' ≡ column_after (λ h. h.table.y) o y) × (k' ≡ column_after (λ h. h.table.kit) o k)))
-
-module _ (s : List ℕ) (r : Sheet) (e : r ≡ sheet_of (read_sheet s)) where
+module _ (s : List ℕ) (r : Told) (e : r ≡ sheet_of (read_sheet s)) where
   result : (o : Outcome Held) → read_sheet s ≡ o → r ≡ sheet_of o
   result o f = e ∙ ap (λ (o : Outcome Held). sheet_of o) f
 
@@ -60,11 +58,20 @@ module _ (s : List ℕ) (r : Sheet) (e : r ≡ sheet_of (read_sheet s)) where
   is_accepted z = go (read_sheet s) refl
     where
       go : (o : Outcome Held) → read_sheet s ≡ o → (h : Held) × ((read_sheet s ≡ accepted h) × (r ≡ sheet_of (accepted h)))
-      go (fault c l) f = let q : r.code ≡ c = ap (λ (r : Sheet). r.code) (result (fault c l) f) in absurd (omega (arith, (sheet_codes s c l f).0))
+      go (fault c l) f = let q : r.code ≡ c = ap (λ (r : Told). r.code) (result (fault c l) f) in absurd (omega (arith, (sheet_codes s c l f).0))
       go (accepted h) f = (h, (f, result (accepted h) f))
 
+-- a refusal is the outcome's
+pub is_refused : (e : Refusal) (o : Outcome Held) → told (Err e) ≡ sheet_of o → o ≡ fault (number e.reason) e.at
+is_refused e (fault c l) q = ap₂ (λ (c l : ℕ). fault c l) (sym (ap (λ (t : Told). t.code) q)) (sym (ap (λ (t : Told). t.at) q))
+is_refused e (accepted h) q = absurd (numbered e.reason (ap (λ (t : Told). t.code) q))
+
+-- and no column changes in it
+pub unchanged : (o : Outcome Held) (c l : ℕ) (before : Table) → o ≡ fault c l → before ≡ columns_after o before
+unchanged o c l before e = sym (ap (λ (o : Outcome Held). columns_after o before) e)
+
 module _ (s : List ℕ) (h : Held) (e : read_sheet s ≡ accepted h) where
-  fits : (room : ℕ) → places h.table ≤ room → within room (read_sheet s) ≡ accepted h
+  pub fits : (room : ℕ) → places h.table ≤ room → within room (read_sheet s) ≡ accepted h
   fits room l = ap (within room) e ∙ go (dec_le (places h.table) room)
     where
       go : (d : Dec (places h.table ≤ room)) → elim d [ yes _ ↦ accepted h | no _ ↦ fault 54 0 ] ≡ accepted h
@@ -122,16 +129,8 @@ module _ (s : List ℕ) (h : Held) (e : read_sheet s ≡ accepted h) where
           subst (λ (g : Got (List Place)). stored of g x x') stands.read q
           ∙ ap (λ (u : List A). over u x) (same stands.list ∙ ap col (sym stands.table))
 
-      column : (room : ℕ) → places h.table ≤ room → x' ≡ column_after (λ h. col h.table) (within room (read_sheet s)) x
+      pub column : (room : ℕ) → places h.table ≤ room → x' ≡ column_after (λ h. col h.table) (within room (read_sheet s)) x
       column room enough = column_holds ∙ sym (ap (λ (o : Outcome Held). column_after (λ h. col h.table) o x) (fits room enough))
-
-    pub done_read : (room : ℕ) → places h.table ≤ room → (a : Sheet) (x y : List ℤ) (k : List ℕ) (x' y' : List ℤ) (k' : List ℕ) → a ≡ sheet_of (accepted h) →
-        stored x_of ((several place_part p 0).read 3 r) x x' × (stored y_of ((several place_part p 0).read 3 r) y y' × stored word_of ((several place_part p 0).read 3 r) k k') →
-        Done (within room (read_sheet s)) a x y k x' y' k'
-    done_read room enough a x y k x' y' k' q w = (
-      q ∙ ap (λ (o : Outcome Held). sheet_of o) (sym (fits room enough)),
-      (column x_of (λ t. t.x) (λ l. refl) x x' w.0 room enough, (column y_of (λ t. t.y) (λ l. refl) y y' w.1.0 room enough, column word_of (λ t. t.kit) (λ l. refl) k k' w.1.1 room enough)),
-    )
 
 -- the same of columns that nobody looks at after a refusal
 pub taken : {A : Type 0} (s : List ℕ) (p : ℕ) (r : List ℕ) → head_part.read 1 s ≡ got p r → (of : Place → A) (col : Table → List A) → ((l : List Place) → map of l ≡ col (columns l)) →

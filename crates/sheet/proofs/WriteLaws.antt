@@ -1,14 +1,13 @@
 -- What the writer answers, and the lent buffer afterwards.
 -- Assumes nothing.
 use Prim.Native.Nat.{ℕ, zero, suc, ◌+◌, ◌*◌, ◌≤◌, ◌<◌}
-use mathlib.Core.Path.{◌≡◌, refl, sym, ap, ap₂, ◌∙◌}
-use mathlib.Core.List.{List, [], ◌∷◌, ◌++◌}
+use mathlib.Core.Path.{◌≡◌, refl, sym, ◌∙◌}
+use mathlib.Core.List.{List, [], ◌∷◌}
 use native.Mathlib.Omega.{arith}
-use lib.ListN.{length, drop}
+use lib.ListN.{length}
 use Rattle.table.specs.Table.{Table, places, table_rules, Valid}
 use Rattle.verdict.specs.Rules.{verdict, says}
 use Rattle.verdict.proofs.RuleLaws.{breaks_at, holds_all, goes_on}
-use Rattle.print.specs.Puts.{Puts}
 use Rattle.rows.specs.Sheet.{Held, sheet_bytes, asked}
 use Rattle.rows.proofs.SizeLaws.{bytes_enough}
 use Rattle.sheet.specs.Write.{rule54, write_rules, afterwards}

@@ -1,12 +1,14 @@
 // The place sheet: written into a lent buffer, and read into lent columns.
 #![tactic(auto)]
 
-ghost use Rattle.std.specs.Prelude.{◌≡◌, ◌≤◌, length};
+ghost use Rattle.std.specs.Prelude.{◌≡◌, length};
 ghost use Rattle.verdict.specs.Rules.{said, verdict};
 ghost use Rattle.rows.specs.Sheet.{asked, read_sheet};
-ghost use Rattle.scan.specs.Read.{reading, sheet_of, column_after, column_taken};
+ghost use Rattle.scan.specs.Lent.{lent, left, Room};
+ghost use Rattle.scan.specs.Read.{reading_in, sheet_of, told, columns_after, Taken};
 ghost use Rattle.sheet.specs.Write.{write_rules, written, afterwards};
 
+use scan::{Columns, Sheet};
 use table::Table;
 use verdict::{Reason, Refusal};
 
@@ -28,37 +30,31 @@ pub fn write(t: &Table, want: u64, budget: u32, out: &mut [u8]) -> Result<usize,
 
 // Reads a sheet: 51 to 53 at the lowest line that is refused; then 54 where a lent column is shorter than the place count.
 // A refusal changes nothing that was lent; else the first values of each column are those of the places.
-pub fn read(src: &[u8], x: &mut [i32], y: &mut [i32], kit: &mut [u64]) -> scan::Sheet
-    ensures value { result ≡ sheet_of (reading src.now x.old y.old kit.old) }
-    ensures x_after { x.new ≡ column_after (λ h. h.table.x) (reading src.now x.old y.old kit.old) x.old }
-    ensures y_after { y.new ≡ column_after (λ h. h.table.y) (reading src.now x.old y.old kit.old) y.old }
-    ensures kit_after { kit.new ≡ column_after (λ h. h.table.kit) (reading src.now x.old y.old kit.old) kit.old }
+pub fn read(src: &[u8], into: Columns) -> Result<Sheet, Refusal>
+    ensures value { told result ≡ sheet_of (reading_in src.now (lent into.entry)) }
+    ensures columns_after { left into.exit ≡ columns_after (reading_in src.now (lent into.entry)) (lent into.entry) }
 {
-    let r = scan::scan(src);
-    if r.code != 0 {
-        return r;
-    }
-    if x.len().min(y.len().min(kit.len())) < r.places {
-        return scan::refused(54, 0);
+    let sheet = scan::scan(src)?;
+    let Columns { x, y, kit } = into;
+    if x.len().min(y.len().min(kit.len())) < sheet.places {
+        return Err(Refusal {
+            reason: Reason::TooShort,
+            at: 0,
+        });
     }
     let head = scan::head_of(src).unwrap();
-    let _ = scan::fill(src, head.next, head.value, x, y, kit);
-    r
+    let _ = scan::fill(src, head.next, head.value, Columns { x, y, kit });
+    Ok(sheet)
 }
 
 // Internal: reads a sheet in one pass, into columns with room for every table that nobody looks at after a refusal.
-pub fn take_in(src: &[u8], x: &mut [i32], y: &mut [i32], kit: &mut [u64]) -> scan::Sheet
-    requires { (4096 ≤ length x.old) × ((4096 ≤ length y.old) × (4096 ≤ length kit.old)) }
-    ensures value { result ≡ sheet_of (read_sheet src.now) }
-    ensures column_taken { column_taken (λ h. h.table.x) (read_sheet src.now) x.old x.new }
-    ensures column_taken_2 { column_taken (λ h. h.table.y) (read_sheet src.now) y.old y.new }
-    ensures column_taken_3 { column_taken (λ h. h.table.kit) (read_sheet src.now) kit.old kit.new }
+pub fn take_in(src: &[u8], into: Columns) -> Result<Sheet, Refusal>
+    requires { Room 4096 (lent into) }
+    ensures value { told result ≡ sheet_of (read_sheet src.now) }
+    ensures columns_taken { Taken (read_sheet src.now) (lent into.entry) (left into.exit) }
 {
-    match scan::head_of(src) {
-        Ok(head) => {
-            let p = scan::fill(src, head.next, head.value, x, y, kit);
-            scan::ending(src, p, head.value)
-        }
-        Err(refusal) => scan::Sheet::from(refusal),
-    }
+    let head = scan::head_of(src)?;
+    let Columns { x, y, kit } = into;
+    let p = scan::fill(src, head.next, head.value, Columns { x, y, kit });
+    scan::ending(src, p, head.value)
 }

@@ -45,8 +45,13 @@ impl Table<'_> {
         }
     }
 
-    pub(crate) fn read_sheet(&mut self, src: &[u8]) -> scan::Sheet {
-        sheet::read(src, self.x, self.y, self.kit)
+    pub(crate) fn read_sheet(&mut self, src: &[u8]) -> Result<scan::Sheet, verdict::Refusal> {
+        let into = scan::Columns {
+            x: self.x,
+            y: self.y,
+            kit: self.kit,
+        };
+        sheet::read(src, into)
     }
 
     pub(crate) fn put(&self, page: &mut Page) {

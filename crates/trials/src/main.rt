@@ -120,11 +120,11 @@ fn write_case(words: &mut Words, page: &mut Page, room: &mut Room) -> Result<(),
 fn read_case(words: &mut Words, page: &mut Page, room: &mut Room) -> Result<(), BadCase> {
     let src = read_column(words, &mut room.bytes)?;
     let mut table = room.table.read(words)?;
-    let r = table.read_sheet(src);
-    page.put_verdict(r.code, r.at);
-    page.put_next(r.places);
-    page.put_next(r.want);
-    page.put_next(r.budget);
+    let sheet = table.read_sheet(src);
+    put_refusal(page, sheet.err());
+    page.put_next(sheet.map_or(0, |s| s.places));
+    page.put_next(sheet.map_or(0, |s| s.want));
+    page.put_next(sheet.map_or(0, |s| s.budget));
     table.put(page);
     Ok(())
 }

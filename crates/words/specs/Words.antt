@@ -6,7 +6,7 @@ use Rattle.verdict.specs.Rules.{Verdict}
 use Rattle.verdict.specs.declared.From.{From}
 use Rattle.verdict.specs.declared.From.TheVariants.{Query, Table, Tree, Search, Room, Sheet, NoRefusal}
 use Rattle.found.specs.declared.Found.{Found}
-use Rattle.scan.specs.declared.Sheet as sheet
+use Rattle.scan.specs.Read.{Told}
 
 -- the number of a family
 unfoldable pub family_number : From → ℕ
@@ -35,5 +35,5 @@ abbrev pub found_words : Found → List ℕ
 found_words f = f.code ∷ f.at ∷ f.places ++ f.squared ∷ f.steps ∷ flag f.known ∷ []
 
 -- code, at, places, want, budget
-abbrev pub sheet_words : sheet.Sheet → List ℕ
+abbrev pub sheet_words : Told → List ℕ
 sheet_words s = s.code ∷ s.at ∷ s.places ∷ s.want ∷ s.budget ∷ []

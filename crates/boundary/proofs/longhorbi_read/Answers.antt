@@ -1,5 +1,6 @@
 -- Where the answer has no room nothing happens, and else the sheet is read.
-use Rattle.std.proofs.Common.{◌∙◌}
+use Rattle.std.proofs.Common.{ap, ◌∙◌}
+use Rattle.table.specs.Table.{Table}
 use Rattle.answer.proofs.LentLaws.{too_short}
 use Rattle.boundary.proofs.KeptLaws.{with_room, without_room}
 use Rattle.boundary.proofs.longhorbi_read.Goals as goal
@@ -17,10 +18,10 @@ returns-then-answer-lt5 c =
     }
 
 pub returns-clause-x_after : goal.returns-clause-x_after
-returns-clause-x_after c = c.read-s.ensures.x_after ∙ with_room 5 _ _ _ c.if-answer-lt5.false
+returns-clause-x_after c = ap (λ (t : Table). t.x) c.read.ensures.columns_after ∙ with_room 5 _ _ _ c.if-answer-lt5.false
 
 pub returns-clause-y_after : goal.returns-clause-y_after
-returns-clause-y_after c = c.read-s.ensures.y_after ∙ with_room 5 _ _ _ c.if-answer-lt5.false
+returns-clause-y_after c = ap (λ (t : Table). t.y) c.read.ensures.columns_after ∙ with_room 5 _ _ _ c.if-answer-lt5.false
 
 pub returns-clause-kit_after : goal.returns-clause-kit_after
-returns-clause-kit_after c = c.read-s.ensures.kit_after ∙ with_room 5 _ _ _ c.if-answer-lt5.false
+returns-clause-kit_after c = ap (λ (t : Table). t.kit) c.read.ensures.columns_after ∙ with_room 5 _ _ _ c.if-answer-lt5.false

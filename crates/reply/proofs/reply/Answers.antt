@@ -1,21 +1,19 @@
 -- Too long an input is refused; else its sheet is answered.
 -- Assumes nothing.
-use Rattle.std.proofs.Common.{◌≡◌, List, ℕ, ap, ◌∙◌}
+use Rattle.std.proofs.Common.{List, ℕ, ap, ◌∙◌}
 use Rattle.answer.specs.Lent.{laid, holding}
-use Rattle.found.specs.declared.Found.{Found}
-use Rattle.report.specs.Answer.{answer_lines}
 use Rattle.reply.proofs.ReplyLaws.{printed_long, printed_sheet}
 use Rattle.reply.proofs.reply.Goals as goal
 
 pub returns-then-input-gt65536-clause-value : goal.returns-then-input-gt65536-clause-value
 returns-then-input-gt65536-clause-value c =
-    c.lines.ensures.value
-    ∙ ap (λ (b : List ℕ). laid b c.args.out.now) (ap (λ (f : Found). answer_lines f 0) c.refuse.ensures ∙ printed_long c.args.input.now c.if-input-gt65536.true)
+    c.refuse.ensures.value
+    ∙ ap (λ (b : List ℕ). laid b c.args.out.now) (printed_long c.args.input.now c.if-input-gt65536.true)
 
 pub returns-then-input-gt65536-clause-out_after : goal.returns-then-input-gt65536-clause-out_after
 returns-then-input-gt65536-clause-out_after c =
-    c.lines.ensures.out_after
-    ∙ ap (λ (b : List ℕ). holding b c.args.out.now) (ap (λ (f : Found). answer_lines f 0) c.refuse.ensures ∙ printed_long c.args.input.now c.if-input-gt65536.true)
+    c.refuse.ensures.out_after
+    ∙ ap (λ (b : List ℕ). holding b c.args.out.now) (printed_long c.args.input.now c.if-input-gt65536.true)
 
 pub returns-clause-value : goal.returns-clause-value
 returns-clause-value c = c.reply_in.ensures.value ∙ ap (λ (b : List ℕ). laid b c.args.out.now) (printed_sheet c.args.input.now c.if-input-gt65536.false)

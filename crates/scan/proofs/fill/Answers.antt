@@ -23,9 +23,7 @@ returns-in_err-place c =
     let e = passed_refused place_part 4 place_lines _ _ _ 3 _ _ _ c.loop-i.invariant.1.0 c.loop-i-test.true _ _ c.in_err-place.ensures in
     record {
       read = reads_refused (λ v. v) a.src.now (passed g) _ c.in_err-place.field-0.0 c.from_residual.ensures.1 (ap passed e);
-      stored = column_unsaid x_of g _ _ _ _ e;
-      stored_2 = column_unsaid y_of g _ _ _ _ e;
-      stored_3 = column_unsaid word_of g _ _ _ _ e;
+      stored = (column_unsaid x_of g _ _ _ _ e, (column_unsaid y_of g _ _ _ _ e, column_unsaid word_of g _ _ _ _ e));
     }
 
 pub loop-i-preserved : goal.loop-i-preserved
@@ -55,7 +53,5 @@ returns c =
     let e = passed_all place_part 4 place_lines _ _ _ 3 _ _ _ l.0 c.loop-i-test.false in
     record {
       read = (l.0.inside, ap passed e);
-      stored = column_stored x_of _ _ _ _ _ _ e n k.x;
-      stored_2 = column_stored y_of _ _ _ _ _ _ e n k.y;
-      stored_3 = column_stored word_of _ _ _ _ _ _ e n k.kit;
+      stored = (column_stored x_of _ _ _ _ _ _ e n k.x, (column_stored y_of _ _ _ _ _ _ e n k.y, column_stored word_of _ _ _ _ _ _ e n k.kit));
     }

@@ -9,4 +9,4 @@ use Rattle.scan.proofs.fill.Given as goal
 abbrev pub invariant-loop-i : goal.invariant-loop-i
 invariant-loop-i l =
     (r : List Place)
-    × (Passed place_part 4 place_lines l.src (drop l.at l.src) l.places 3 l.i l.next r × Columns r l.i (table l.fn.x l.fn.y l.fn.kit) (table l.x l.y l.kit))
+    × (Passed place_part 4 place_lines l.src (drop l.at l.src) l.places 3 l.i l.next r × Columns r l.i (table l.initial.x l.initial.y l.initial.kit) (table l.x l.y l.kit))

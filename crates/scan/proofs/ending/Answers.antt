@@ -8,8 +8,8 @@ use Rattle.rows.specs.Sheet.{Held, place_part, read_sheet}
 use Rattle.parts.proofs.HeadLaws.{head_few}
 use Rattle.scan.specs.Read.{passed, sheet_of}
 use Rattle.scan.proofs.ScanLaws.{scan_2, scan_3, scan_53, scan_all, told_refused}
-use Rattle.scan.proofs.ended.Goals as goal
-use Rattle.scan.proofs.ended.Goals.{Start, In_ok-next}
+use Rattle.scan.proofs.ending.Goals as goal
+use Rattle.scan.proofs.ending.Goals.{Start, In_ok-next}
 
 few : (c : Start) → c.args.places ≤ 4096
 few c = head_few _ _ _ _ c.requires.1.0

@@ -20,7 +20,8 @@ use Rattle.members.specs.declared.Want.{Want}
 use Rattle.members.specs.Boxes.{without, AllRanged, boxes_at}
 use Rattle.members.specs.Columns.{sides_of, with_member}
 use Rattle.members.specs.Levels.{levels_at, next_top, next_high}
-use Rattle.members.specs.Best.{Best, near, Stepped}
+use Rattle.members.specs.declared.Best.{Best}
+use Rattle.members.specs.Best.{near, Stepped}
 use Rattle.members.proofs.LevelLaws.{top_on, top_back, high_on, high_back, levels_eight, levels_next}
 use Rattle.groups.specs.Members.{Member, boxes_of, things_of, wanted, candidate, members_at}
 use Rattle.groups.specs.Opening.{Opened, Led}

@@ -3,7 +3,6 @@
 
 ghost use Rattle.std.specs.Prelude.{false};
 ghost use Rattle.walks.specs.Allowance.{stand};
-ghost use Rattle.members.specs.Best.{best_in};
 ghost use Rattle.groups.specs.Members.{wanted, candidate, Few, Passes};
 ghost use Rattle.groups.specs.Opening.{Opened, Led};
 
@@ -11,21 +10,21 @@ use members::{Members, Progress, Want};
 use table::Table;
 use tree::Tree;
 
-// Internal: opens a candidate at its topmost member, for which it may put others on the way, and takes all that comes of it; says
-// whether the allowance was spent.
+// Internal: opens a candidate at its topmost member, for which it puts others in a copy, and takes all that comes of it; says whether
+// the allowance was spent.
 pub fn descend(
     t: &Table,
     tree: &Tree,
     w: &Want,
     top: usize,
     high: u8,
-    c: &mut Members,
+    c: &Members,
     p: &mut Progress,
 ) -> bool
     requires passes { Passes t.now tree.now }
     requires few { Few w.now.m w.now.kinds }
-    requires opened { Opened t.now tree.now (wanted w.now) w.now.m (candidate w.now.m top high c.old) top (best_in p.old.best) }
-    ensures { Led t.now tree.now (wanted w.now) w.now.allowance w.now.m (candidate w.now.m top high c.old) top (stand p.old.steps false (best_in p.old.best)) (stand p.new.steps result (best_in p.new.best)) }
+    requires opened { Opened t.now tree.now (wanted w.now) w.now.m (candidate w.now.m top high c.now) top p.old.best }
+    ensures { Led t.now tree.now (wanted w.now) w.now.allowance w.now.m (candidate w.now.m top high c.now) top (stand p.old.steps false p.old.best) (stand p.new.steps result p.new.best) }
 {
     let next = members::next_top(w.m, top);
     let lower = members::next_high(w.m, top, high);
@@ -36,6 +35,7 @@ pub fn descend(
     let shape = &tree.shape;
     let o = groups::open_at(shape, w, top, high, c.numbers[top]);
     let entries = shape.entries;
+    let mut below = *c;
     for k in 0..o.many {
         let here = o.first + k;
         if members::holds_at(o.leaf, here, o.kind, t, tree) {
@@ -44,18 +44,14 @@ pub fn descend(
             }
             let number = entries[here];
             let b = members::box_of(o.leaf, usize::from(number), t, &tree.sides);
-            if c.is_near(w.m, top, b, &p.best) {
+            if below.is_near(w.m, top, b, &p.best) {
+                below.put(top, number, b);
                 if left == 0 {
-                    c.put(top, number, b);
-                    if groups::take_groups(t, tree, w, next, c, p) {
+                    if groups::take_groups(t, tree, w, next, &below, p) {
                         return true;
                     }
-                } else {
-                    let mut below = *c;
-                    below.put(top, number, b);
-                    if descend(t, tree, w, next, lower, &mut below, p) {
-                        return true;
-                    }
+                } else if descend(t, tree, w, next, lower, &below, p) {
+                    return true;
                 }
             }
         }

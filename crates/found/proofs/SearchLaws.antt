@@ -1,11 +1,11 @@
 -- The search by cases.
 -- Assumes nothing.
-use mathlib.Core.Path.{◌≡◌, refl, sym, ap, ap₂, subst, ◌∙◌}
-use mathlib.Core.Bool.{Bool, true, false}
+use mathlib.Core.Path.{◌≡◌, sym, ap, subst, ◌∙◌}
+use mathlib.Core.Bool.{true, false}
 use mathlib.Core.List.{List}
 use Prim.Native.Nat.{ℕ, ◌≤◌, ◌<◌}
 use native.Mathlib.Omega.{arith}
-use lib.ListN.{length, replicate, take, get_or, get_or-append}
+use lib.ListN.{length, take, get_or, get_or-append}
 use lib.Seq.{take-append_seam}
 use borrow.Author.Tests.{ne_eqb, lt-ltb, le-ltb}
 use Rattle.kit.specs.Kit.{kinds, all_held, padded}
@@ -18,12 +18,8 @@ use Rattle.verdict.proofs.RuleLaws.{none_broken, all_hold, passed, stopped}
 use Rattle.closest.specs.Walk.{begins, stands_at}
 use Rattle.closest.proofs.AnswerLaws.{member_of}
 use Rattle.groups.specs.Members.{Few, Passes}
-use Rattle.std.specs.Prelude.{Option, Some, None}
-use Rattle.std.specs.Option.{is_some, unwrap_or}
-use Rattle.members.specs.declared.Group.{Group}
-use Rattle.members.specs.Best.{Best, best_at, best_in}
-use Rattle.walk.specs.declared.State.{State as Stood}
-use Rattle.walk.specs.State.{State, walked, state_of}
+use Rattle.walk.specs.State.{state_of}
+use Rattle.walk.specs.declared.State.{State}
 use Rattle.found.specs.Search.{query_rules, search_rules, refused, said, outcome, searched}
 
 -- what the rules leave known
@@ -40,17 +36,6 @@ begins_not t tree kinds e = rw (begins, e)
 pub begins_held : (t : Table) (tree : Tree) (kinds : List ℕ) → 0 < tree.shape.nodes → begins t tree kinds ≡ all_held (kit_of t tree.kits (node 0)) kinds
 unfolding begins
 begins_held t tree kinds l = rw (begins, lt-ltb 0 tree.shape.nodes l)
-
--- where a walk stands, by what the code reads of its best
-best_is : (o : Option Group) → best_at (is_some o) (unwrap_or o (record { squared = 0; places = replicate 8 0 })).squared (unwrap_or o (record { squared = 0; places = replicate 8 0 })).places ≡ best_in o
-best_is None = refl
-best_is (Some g) = refl
-
-abbrev pub parts : Stood → Bool → Group → State
-parts s known best = record { steps = s.steps; spent = s.spent; best = best_at known best.squared best.places }
-
-pub outcome_parts : (s : Stood) {known : Bool} {best : Group} → known ≡ is_some s.best → best ≡ unwrap_or s.best (record { squared = 0; places = replicate 8 0 }) → outcome (parts s known best) ≡ outcome (walked s)
-outcome_parts s e f = ap₂ (λ (u : Bool) (b : Group). outcome (parts s u b)) e f ∙ ap (λ (b : Best). outcome (record { steps = s.steps; spent = s.spent; best = b })) (best_is s.best)
 
 -- the outcomes of a walk
 pub outcome_spent : (s : State) → s.spent ≡ true → said 32 s ≡ outcome s

@@ -9,7 +9,8 @@ use Rattle.tree.specs.Tree.{Tree}
 use Rattle.tree.specs.Rules.{check_rules}
 use Rattle.verdict.specs.Rules.{Rule, Verdict, verdict}
 use Rattle.closest.specs.Walk.{begins, stands_at}
-use Rattle.walk.specs.State.{State, state_of}
+use Rattle.walk.specs.State.{state_of}
+use Rattle.walk.specs.declared.State.{State}
 use Rattle.found.specs.declared.Found.{Found}
 
 -- 1: the want names a kind; 2: it names at most eight

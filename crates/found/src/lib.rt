@@ -4,13 +4,12 @@
 ghost use Rattle.std.specs.Prelude.{◌≡◌, ◌≤◌, length};
 ghost use Rattle.kit.specs.Kit.{kinds};
 ghost use Rattle.table.specs.Table.{Table};
+ghost use Rattle.tree.specs.Tree.{Shape, Sides};
 ghost use Rattle.closest.specs.Walk.{begins};
+ghost use Rattle.tree.specs.Lent.{tree};
 ghost use Rattle.verdict.specs.Rules.{said, verdict};
-ghost use Rattle.walk.specs.State.{walked};
 ghost use Rattle.found.specs.Search.{refused, outcome, query_rules};
 
-use members::Group;
-use tree::Tree;
 use verdict::{Reason, Refusal};
 
 // What a search gives.
@@ -59,24 +58,21 @@ pub fn want_fault(want: u64) -> Result<(), Refusal>
 }
 
 // Internal: does the root hold every wanted kind?
-pub fn root_holds(tree: &Tree, want: u64) -> bool
-    requires { tree.now.shape.nodes ≤ length tree.now.kits }
-    ensures { (t : Table) → result ≡ begins t tree.now (kinds want) }
+pub fn root_holds(kits: &[u64], nodes: usize, want: u64) -> bool
+    requires { nodes ≤ length kits.now }
+    ensures { (t : Table) (s : Shape) (b : Sides) → s.nodes ≡ nodes → result ≡ begins t (tree s b kits.now) (kinds want) }
 {
-    let shape = &tree.shape;
-    let kits = tree.kits;
-    shape.nodes > 0 && kit::holds_all(kits[0], want)
+    if nodes == 0 {
+        return false;
+    }
+    kit::holds_all(kits[0], want)
 }
 
 // Internal: the answer that a walk ends with.
 pub fn outcome_of(s: walk::State) -> Found
-    ensures { result ≡ outcome (walked s) }
+    ensures { result ≡ outcome s }
 {
-    let known = s.best.is_some();
-    let best = s.best.unwrap_or(Group {
-        squared: 0,
-        places: [0u16; 8],
-    });
+    let best = s.best;
     let places = best.places;
     if s.spent {
         return Found {
@@ -85,7 +81,7 @@ pub fn outcome_of(s: walk::State) -> Found
             places,
             squared: best.squared,
             steps: s.steps,
-            known,
+            known: best.known,
         };
     }
     if 8000000000000 < best.squared {
@@ -97,6 +93,6 @@ pub fn outcome_of(s: walk::State) -> Found
         places,
         squared: best.squared,
         steps: s.steps,
-        known,
+        known: best.known,
     }
 }

@@ -1,6 +1,6 @@
 -- What the loop over the run of an opened candidate keeps, and how it ends.
 -- Assumes nothing.
-use mathlib.Core.Path.{◌≡◌, refl, sym, ap, ap₂, subst, ◌∙◌}
+use mathlib.Core.Path.{◌≡◌, sym, ap, ap₂, subst, ◌∙◌}
 use mathlib.Core.Bool.{Bool, true, false}
 use mathlib.Core.List.{List, map}
 use mathlib.Core.Option.{none, some}
@@ -22,7 +22,7 @@ use Rattle.closest.proofs.CandidateLaws.{group_is}
 use Rattle.groups.specs.Members.{Member, Placed, boxes_of, thing_of, things_of}
 use Rattle.groups.specs.Opening.{Led}
 use Rattle.groups.specs.Leads.{Near, leads}
-use Rattle.members.specs.Best.{Best}
+use Rattle.members.specs.declared.Best.{Best}
 use Rattle.groups.specs.declared.Opening.{Opening}
 use Rattle.groups.proofs.Opens.{Last}
 use Rattle.groups.proofs.MemberLaws.{whole_spread}

@@ -25,7 +25,7 @@ use Rattle.members.specs.Best.{limit_of, near}
 use Rattle.groups.specs.Members.{Member, member_of, nobody, boxes_of, members_at, things_of, Fair, Passes}
 use Rattle.groups.specs.Opening.{Opened}
 use Rattle.groups.specs.Leads.{Near}
-use Rattle.members.specs.Best.{Best}
+use Rattle.members.specs.declared.Best.{Best}
 use Rattle.groups.specs.declared.Opening.{Opening}
 use Rattle.groups.proofs.Opens.{Opens, Last}
 use Rattle.members.proofs.BoxesLaws.{spread_set}

@@ -27,7 +27,7 @@ use Rattle.members.specs.Boxes.{without, AllRanged}
 use Rattle.groups.specs.Members.{Member, member_of, members_of, Placed, nobody, boxes_of, thing_of, things_of, Real, Fair, Passes}
 use Rattle.groups.specs.Opening.{Opened, Led}
 use Rattle.groups.specs.Leads.{Near, leads}
-use Rattle.members.specs.Best.{Best}
+use Rattle.members.specs.declared.Best.{Best}
 use Rattle.groups.specs.declared.Opening.{Opening}
 use Rattle.groups.proofs.Opens.{Opens}
 use Rattle.groups.proofs.EntryLaws.{meets, ranged, node_high}

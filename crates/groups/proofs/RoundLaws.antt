@@ -24,7 +24,8 @@ use Rattle.members.specs.Boxes.{without, AllRanged, boxes_at, UpTo}
 use Rattle.members.specs.Columns.{sides_of}
 use Rattle.members.proofs.PlaceLaws.{group_long}
 use Rattle.members.specs.Levels.{levels_at}
-use Rattle.members.specs.Best.{Best, limit_of, improved, Stepped}
+use Rattle.members.specs.declared.Best.{Best}
+use Rattle.members.specs.Best.{limit_of, improved, Stepped}
 use Rattle.groups.specs.Members.{Member, boxes_of, things_of, wanted, candidate, Few, Passes}
 use Rattle.groups.specs.Opening.{Opened, Led}
 use Rattle.groups.specs.declared.Opening.{Opening}

@@ -20,7 +20,7 @@ use Rattle.closest.specs.Candidate.{member, entry, entries_of, topmost, levels, 
 use Rattle.closest.specs.Walk.{holds, boxes}
 use Rattle.closest.proofs.CandidateLaws.{levels_set}
 use Rattle.groups.specs.Leads.{kept, walk_best, ahead, leads}
-use Rattle.members.specs.Best.{Best}
+use Rattle.members.specs.declared.Best.{Best}
 use Rattle.groups.proofs.AheadLaws.{ahead_none, ahead_more, step_known, stays}
 
 -- a member is replaced by a thing one level lower

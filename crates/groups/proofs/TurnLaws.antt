@@ -19,7 +19,7 @@ use Rattle.closest.specs.Group.{spread, diameter}
 use Rattle.closest.specs.Candidate.{number, member, topmost, group_of, entry, entries_of, scene, boxes_in, too_far}
 use Rattle.closest.specs.Walk.{holds, boxes}
 use Rattle.groups.specs.Leads.{Near, kept, walk_best, leads}
-use Rattle.members.specs.Best.{Best}
+use Rattle.members.specs.declared.Best.{Best}
 use Rattle.groups.proofs.AheadLaws.{stays}
 use Rattle.groups.proofs.StepLaws.{turn_spent, walk_open, again_held}
 

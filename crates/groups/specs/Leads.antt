@@ -11,7 +11,7 @@ use Rattle.closest.specs.Group.{diameter}
 use Rattle.closest.specs.Candidate.{levels, replaced, scene, too_far}
 use Rattle.closest.specs.Walk.{holds, boxes}
 use Rattle.members.specs.Best.{improved}
-use Rattle.members.specs.Best.{Best}
+use Rattle.members.specs.declared.Best.{Best}
 
 -- the memory of the code: the bound is the best's square, and a group becomes the best if it is better
 abbrev pub bound_of : Bool → ℕ → Option ℕ

@@ -9,7 +9,7 @@ use Rattle.closest.specs.Candidate.{member, topmost, group_of, entries_of}
 use Rattle.walks.specs.Allowance.{Stand}
 use Rattle.groups.specs.Members.{Member, boxes_of, things_of, Fair}
 use Rattle.groups.specs.Leads.{Near, leads}
-use Rattle.members.specs.Best.{Best}
+use Rattle.members.specs.declared.Best.{Best}
 
 -- a candidate that is opened at its topmost member: it is no group, and it is not dropped
 pub record Opened (t : Table) (tree : Tree) (kinds : List ℕ) (m : ℕ) (cand : List Member) (top : ℕ) (best : Best) : Type 0 where

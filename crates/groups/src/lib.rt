@@ -3,7 +3,6 @@
 
 ghost use Rattle.std.specs.Prelude.{◌≡◌, false, ◌+◌, ◌<◌, eqb, length, get_or};
 ghost use Rattle.walks.specs.Allowance.{stand};
-ghost use Rattle.members.specs.Best.{best_in};
 ghost use Rattle.groups.specs.Members.{wanted, candidate, Few, Passes};
 ghost use Rattle.groups.specs.Opening.{Opened, Led};
 
@@ -50,8 +49,8 @@ pub fn take_groups(
 ) -> bool
     requires passes { Passes t.now tree.now }
     requires few { Few w.now.m w.now.kinds × (top + 1 ≡ w.now.m) }
-    requires opened { Opened t.now tree.now (wanted w.now) w.now.m (candidate w.now.m top 1 c.now) top (best_in p.old.best) }
-    ensures { Led t.now tree.now (wanted w.now) w.now.allowance w.now.m (candidate w.now.m top 1 c.now) top (stand p.old.steps false (best_in p.old.best)) (stand p.new.steps result (best_in p.new.best)) }
+    requires opened { Opened t.now tree.now (wanted w.now) w.now.m (candidate w.now.m top 1 c.now) top p.old.best }
+    ensures { Led t.now tree.now (wanted w.now) w.now.allowance w.now.m (candidate w.now.m top 1 c.now) top (stand p.old.steps false p.old.best) (stand p.new.steps result p.new.best) }
 {
     let shape = &tree.shape;
     let o = open_at(shape, w, top, 1, c.numbers[top]);

@@ -4,12 +4,21 @@
 ghost use Rattle.std.specs.Prelude.{◌≡◌, [], ◌∷◌, ◌≤◌, length};
 ghost use Rattle.table.specs.Table.{Even, places};
 ghost use Rattle.verdict.specs.Rules.{Holds, AllHold, said, verdict};
-ghost use Rattle.tree.specs.Rules.{rules22, rule23, rule25, rule26, tree_rules, check_rules};
+ghost use Rattle.tree.specs.Rules.{lengths, rule21, rules22, rule23, rule25, rule26, tree_rules, check_rules};
 ghost use Rattle.tree.specs.Lent.{Columns};
 
 use table::Table;
 use tree::Tree;
 use verdict::{Reason, Refusal};
+
+// Rule 21, of a tree that is lent whole.
+fn counted(places: usize, tree: &Tree) -> Result<(), Refusal>
+    requires { places ≤ 4096 }
+    ensures { said result ≡ verdict (rule21 places tree.now.shape.nodes tree.now.shape.listed (lengths tree.now) ∷ []) }
+{
+    let s = &tree.shape;
+    shapes::counted(places, s.nodes, s.listed, tree.lengths())
+}
 
 // Rule 25: each node's box is the tightest around its entries.
 fn boxes(t: &Table, tree: &Tree) -> Result<(), Refusal>
@@ -69,7 +78,7 @@ fn check_tree(t: &Table, tree: &Tree) -> Result<(), Refusal>
 {
     let places = t.places();
     let s = tree.shape();
-    shapes::counted(places, tree)?;
+    counted(places, tree)?;
     shapes::runs(s)?;
     shapes::names(places, s)?;
     marks::distinct(s)?;

@@ -1,6 +1,6 @@
 -- Groups in eight places: read and stored one by one, and compared in dictionary order.
 -- Assumes nothing.
-use mathlib.Core.Path.{◌≡◌, refl, sym, ap, ◌∙◌}
+use mathlib.Core.Path.{◌≡◌, refl, sym, ap, subst, ◌∙◌}
 use mathlib.Core.Logic.{◌≢◌}
 use mathlib.Core.Bool.{Bool, true, false, cond}
 use mathlib.Core.List.{List}
@@ -10,13 +10,14 @@ use native.Mathlib.Omega.{arith}
 use lib.ListN.{length, get_or, take, set, replicate, length-append, length-set, length-replicate, get_or-replicate, get_or-append}
 use lib.Seq.{ext_get_or, length-take-le, get_or-take, get_or-set_same, get_or-set_other, get_or-append-add}
 use borrow.Author.Tests.{lt-ltb, le-ltb}
-use Rattle.std.specs.Prelude.{Some, None}
+use Rattle.std.specs.Prelude.{Some}
 use Rattle.std.specs.Cmp.Lexicographic.{slice_partial_cmp}
 use Rattle.std.specs.Ordering.{nat_cmp, is_lt, is_some_and}
 use Rattle.std.proofs.lemmas.Bool.Decides.{nat_tests}
 use Rattle.std.proofs.lemmas.Cmp.{same_from_slice_cmp_tested}
 use Rattle.walks.specs.Order.{before}
-use Rattle.members.specs.Best.{best_at, best_in, improved}
+use Rattle.members.specs.Best.{best_at, improved}
+use Rattle.members.specs.declared.Best.{Best}
 use Rattle.kit.specs.Kit.{padded}
 
 -- dictionary order is that of the library's lists
@@ -24,27 +25,41 @@ pub before_is : (xs ys : List ℕ) (r : Bool) → r ≡ is_some_and is_lt (slice
 unfolding before
 before_is = same_from_slice_cmp_tested nat_cmp is_lt before refl (λ _ _. refl) (λ _ _. refl) (λ x y xs ys o h. grind (arith, nat_tests))
 
--- what a group makes of the best that is known
+-- what a group makes of the best
 module _ (g l : List ℕ) (d e : ℕ) where
-  pub less : d < e → improved g d (best_at true e l) ≡ best_at true d g
+  less_at : d < e → improved g d (best_at true e l) ≡ best_at true d g
   unfolding improved
-  less h = rw (improved, lt-ltb d e h)
+  less_at h = rw (improved, lt-ltb d e h)
 
-  pub more : e < d → improved g d (best_at true e l) ≡ best_at true e l
+  more_at : e < d → improved g d (best_at true e l) ≡ best_at true e l
   unfolding improved
-  more h = let h' : e ≤ d = omega arith in rw (improved, le-ltb d e h', lt-ltb e d h)
+  more_at h = let h' : e ≤ d = omega arith in rw (improved, le-ltb d e h', lt-ltb e d h)
 
-  pub equal : d ≡ e → improved g d (best_at true e l) ≡ cond (before g l) (best_at true d g) (best_at true e l)
+  equal_at : d ≡ e → improved g d (best_at true e l) ≡ cond (before g l) (best_at true d g) (best_at true e l)
   unfolding improved
-  equal h = let i : e ≤ d = omega arith in let j : d ≤ e = omega arith in rw (improved, le-ltb d e i, le-ltb e d j) (either (before g l))
+  equal_at h = let i : e ≤ d = omega arith in let j : d ≤ e = omega arith in rw (improved, le-ltb d e i, le-ltb e d j) (either (before g l))
     where
       either : (r : Bool) → elim r [ true ↦ best_at true d g | false ↦ best_at true e l ] ≡ cond r (best_at true d g) (best_at true e l)
       either true = refl
       either false = refl
 
-pub first : (g : List ℕ) (d : ℕ) → improved g d (best_in None) ≡ best_at true d g
-unfolding improved
-first g d = refl
+module _ (g : List ℕ) (d : ℕ) (b : Best) where
+  pub first : b.known ≡ false → improved g d b ≡ best_at true d g
+  unfolding improved
+  first n = rw (improved, n)
+
+  module _ (known : b.known ≡ true) where
+    is : best_at true b.squared b.places ≡ b
+    is = ap (λ (k : Bool). best_at k b.squared b.places) (sym known)
+
+    pub less : d < b.squared → improved g d b ≡ best_at true d g
+    less h = subst (λ (q : Best). improved g d q ≡ best_at true d g) is (less_at g b.places d b.squared h)
+
+    pub more : b.squared < d → improved g d b ≡ b
+    more h = subst (λ (q : Best). improved g d q ≡ q) is (more_at g b.places d b.squared h)
+
+    pub equal : d ≡ b.squared → improved g d b ≡ cond (before g b.places) (best_at true d g) b
+    equal h = subst (λ (q : Best). improved g d q ≡ cond (before g b.places) (best_at true d g) q) is (equal_at g b.places d b.squared h)
 
 -- ---- a list that 0 fills up
 

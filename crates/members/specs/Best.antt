@@ -1,22 +1,12 @@
 -- The best group known, as the code has it, and a step against the allowance.
 -- Assumes nothing.
-use Rattle.std.specs.Prelude.{◌≡◌, Bool, true, false, cond, List, replicate, ℕ, ◌+◌, ◌≤◌, ◌<◌, ltb, Option, Some, None}
+use Rattle.std.specs.Prelude.{◌≡◌, Bool, true, false, cond, List, ℕ, ◌+◌, ◌≤◌, ◌<◌, ltb}
 use Rattle.walks.specs.Order.{before}
-use Rattle.members.specs.declared.Group.{Group}
+use Rattle.members.specs.declared.Best.{Best}
 
 -- whether a group is known, its squared diameter and its places
-pub record Best : Type 0 where
-  pub known : Bool
-  pub squared : ℕ
-  pub places : List ℕ
-
 abbrev pub best_at : Bool → ℕ → List ℕ → Best
 best_at known squared places = record { known = known; squared = squared; places = places }
-
--- the best group that may be known: 0 and zeros while none is
-abbrev pub best_in : Option Group → Best
-best_in None = best_at false 0 (replicate 8 0)
-best_in (Some g) = best_at true g.squared g.places
 
 -- the square above which a candidate is dropped; while no group is known, the largest number, which is above none
 abbrev pub limit_of : Bool → ℕ → ℕ

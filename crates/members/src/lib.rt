@@ -1,22 +1,25 @@
 // The members of a candidate, in columns of eight: which is topmost, how far they lie apart, and the group that they are.
 #![tactic(auto)]
 
-ghost use Rattle.std.specs.Prelude.{◌≡◌, true, false, cond, ℕ, ◌≤◌, ◌<◌, max, length, take, drop, get_or, set, IfSome};
+ghost use Rattle.std.specs.Prelude.{◌≡◌, true, false, cond, List, ℕ, ℤ, ◌≤◌, ◌<◌, max, length, take, drop, get_or, set, IfSome};
 ghost use Rattle.plane.specs.Plane.{Ranged};
 ghost use Rattle.kit.specs.Kit.{held, padded};
+ghost use Rattle.table.specs.Table.{table};
 ghost use Rattle.tree.specs.Tree.{thing, kit_of, box_at, box_of};
 ghost use Rattle.closest.specs.Group.{farthest, spread};
 ghost use Rattle.members.specs.Boxes.{without, skip, AllRanged, boxes_at, UpTo};
 ghost use Rattle.members.specs.Columns.{sides_of, with_member, eight_of};
 ghost use Rattle.members.specs.Levels.{next_top, next_high};
-ghost use Rattle.members.specs.Best.{best_at, best_in, limit_of, near, improved, Stepped};
+ghost use Rattle.members.specs.Best.{best_at, limit_of, near, improved, Stepped};
 
 use table::Table;
 use tree::{Sides, Tree};
 
-// A group of places, and its squared diameter.
+// The best group known. While none is, the walk keeps what stands beside the flag as it is and does not ask for it; `found::outcome_of`
+// hands it on.
 #[derive(Clone, Copy)]
-pub struct Group {
+pub struct Best {
+    pub known: bool,
     pub squared: u64,
     pub places: [u16; 8],
 }
@@ -25,7 +28,7 @@ pub struct Group {
 #[derive(Drop)]
 pub struct Progress {
     pub steps: u32,
-    pub best: Option<Group>,
+    pub best: Best,
 }
 
 // What a walk is asked for: the first m of eight kinds, within an allowance of steps.
@@ -131,15 +134,15 @@ impl Members {
     }
 
     // Internal: is b no farther than the best known from each of m boxes but box i? While no group is known, nothing is too far.
-    pub fn is_near(&self, m: usize, i: usize, b: plane::Box, best: &Option<Group>) -> bool
+    pub fn is_near(&self, m: usize, i: usize, b: plane::Box, best: &Best) -> bool
         requires m_bound { (m ≤ 8) × (i < m) }
         requires all_ranged { AllRanged (take m (boxes_at (sides_of self.now))) × Ranged b }
-        ensures { result ≡ near (best_in best.now).known (best_in best.now).squared (farthest b (without i (take m (boxes_at (sides_of self.now))))) }
+        ensures { result ≡ near best.now.known best.now.squared (farthest b (without i (take m (boxes_at (sides_of self.now))))) }
     {
-        let Some(group) = best else {
+        if !best.known {
             return true;
-        };
-        let squared = group.squared;
+        }
+        let squared = best.squared;
         for k in 0..m - 1 {
             let c = self.box_at(skipping(i, k));
             if squared < plane::apart_of(b, c) {
@@ -219,32 +222,34 @@ impl Progress {
 
     // Internal: the square above which a candidate is dropped; while no group is known, the largest number, which nothing is above.
     pub fn limit(&self) -> u64
-        ensures { result ≡ limit_of (best_in self.now.best).known (best_in self.now.best).squared }
+        ensures { result ≡ limit_of self.now.best.known self.now.best.squared }
     {
-        match &self.best {
-            Some(group) => group.squared,
-            None => u64::MAX,
-        }
+        let best = &self.best;
+        if best.known { best.squared } else { u64::MAX }
     }
 
     // Is a group of this squared diameter better than the best known?
     fn is_better(&self, squared: u64, places: &[u16; 8]) -> bool
-        ensures { improved places.now squared (best_in self.now.best) ≡ cond result (best_at true squared places.now) (best_in self.now.best) }
+        ensures { improved places.now squared self.now.best ≡ cond result (best_at true squared places.now) self.now.best }
     {
-        match &self.best {
-            None => true,
-            Some(group) => squared < group.squared
-                || squared == group.squared && *places < group.places,
+        let best = &self.best;
+        if !best.known {
+            return true;
         }
+        squared < best.squared || squared == best.squared && *places < best.places
     }
 
     // Internal: a group becomes the best known if it is better.
     pub fn offer(&mut self, squared: u64, places: [u16; 8])
-        ensures best { best_in self.new.best ≡ improved places squared (best_in self.old.best) }
+        ensures best { self.new.best ≡ improved places squared self.old.best }
         ensures steps { self.new.steps ≡ self.old.steps }
     {
         if self.is_better(squared, &places) {
-            self.best = Some(Group { squared, places });
+            self.best = Best {
+                known: true,
+                squared,
+                places,
+            };
         }
     }
 }
@@ -265,7 +270,7 @@ impl Want {
 pub fn box_of(leaf: bool, e: usize, t: &Table, b: &Sides) -> plane::Box
     requires e_in_bounds { leaf ≡ true → (e < length t.now.x) × (e < length t.now.y) }
     requires e_in_bounds_2 { leaf ≡ false → (e < length b.now.x_lo) × ((e < length b.now.x_hi) × ((e < length b.now.y_lo) × (e < length b.now.y_hi))) }
-    ensures { result ≡ box_of t.now b.now (thing leaf e) }
+    ensures { (kit : List ℕ) → result ≡ box_of (table t.now.x t.now.y kit) b.now (thing leaf e) }
 {
     if leaf {
         return Sides::of_points(t).box_at(e);
@@ -277,7 +282,7 @@ pub fn box_of(leaf: bool, e: usize, t: &Table, b: &Sides) -> plane::Box
 fn kit_at(leaf: bool, e: usize, t: &Table, kits: &[u64]) -> u64
     requires e_in_bounds { leaf ≡ true → e < length t.now.kit }
     requires e_in_bounds_2 { leaf ≡ false → e < length kits.now }
-    ensures { result ≡ kit_of t.now kits.now (thing leaf e) }
+    ensures { (x y : List ℤ) → result ≡ kit_of (table x y t.now.kit) kits.now (thing leaf e) }
 {
     let kit = if leaf { t.kit } else { kits };
     kit[e]
@@ -288,7 +293,7 @@ pub fn holds_at(leaf: bool, i: usize, kind: usize, t: &Table, tree: &Tree) -> bo
     requires i_in_bounds { (i < length tree.now.shape.entries) × (kind < 64) }
     requires i_in_bounds_2 { leaf ≡ true → get_or tree.now.shape.entries i 0 < length t.now.kit }
     requires i_in_bounds_3 { leaf ≡ false → get_or tree.now.shape.entries i 0 < length tree.now.kits }
-    ensures { result ≡ held (kit_of t.now tree.now.kits (thing leaf (get_or tree.now.shape.entries i 0))) kind }
+    ensures { (x y : List ℤ) → result ≡ held (kit_of (table x y t.now.kit) tree.now.kits (thing leaf (get_or tree.now.shape.entries i 0))) kind }
 {
     let shape = &tree.shape;
     let entries = shape.entries;

@@ -1,6 +1,6 @@
 -- The same for the public functions that are there for other crates: any two results that the contract allows are equal, and so is all that was lent, afterwards.
 -- `Post` is the contract as the toolchain reads it from the source. Assumes nothing.
-use mathlib.Core.Path.{◌≡◌, refl, sym, ap, ap₂, ◌∙◌}
+use mathlib.Core.Path.{◌≡◌, refl, sym, ap₂, ◌∙◌}
 use mathlib.Core.Bool.{Bool, true, false}
 use mathlib.Core.List.{List, []}
 use Prim.Native.Nat.{ℕ}
@@ -9,16 +9,9 @@ use denote.Ref.{Bor}
 use denote.RattleType.{RattleType}
 use denote.Param.Laws.{Laws}
 use mir.Syntax.{Dict}
-use Rattle.std.proofs.Common.{Option, Some, None}
 use Rattle.table.specs.Table.{table}
 use Rattle.tree.specs.Tree.{Shape}
-use Rattle.tree.specs.Lent.{Decides}
-use Rattle.walks.proofs.OrderLaws.{clash}
-use Rattle.members.specs.declared.Group.{Group}
-use Rattle.members.specs.Best.{Best, best_in}
-use Rattle.walk.specs.declared.State.{State}
-use Rattle.walk.specs.State.{walked}
-use Rattle.walk.specs.State as walk-specs
+use Rattle.tree.specs.Lent.{shape, sides, Decides}
 use Rattle.lines.specs.Form.{word, natural, coordinate, bits}
 use Rattle.lines.specs.Line.{read_line}
 use Rattle.readers.proofs.ReadLaws.{reads_one}
@@ -76,21 +69,6 @@ decides_one {r = true} {r' = true} d e = refl
 decides_one {r = true} {r' = false} d e = absurd (e.fails refl (d.holds refl))
 decides_one {r = false} {r' = true} d e = absurd (d.fails refl (e.holds refl))
 decides_one {r = false} {r' = false} d e = refl
-
--- where a walk stands is known by what is told of it
-known_one : {b c : Best} → b ≡ c → b.known ≡ c.known
-known_one e = ap (λ (b : Best). b.known) e
-
-best_one : (b c : Option Group) → best_in b ≡ best_in c → b ≡ c
-best_one None None e = refl
-best_one None (Some g) e = clash refl (sym (known_one e))
-best_one (Some g) None e = clash refl (known_one e)
-best_one (Some g) (Some o) e = ap (λ (b : Best). Some (record { squared = b.squared; places = b.places })) e
-
-walked_one : (s t : State) → walked s ≡ walked t → s ≡ t
-walked_one s t e =
-    let b = best_one s.best t.best (ap (λ (w : walk-specs.State). w.best) e) in
-    ap₂ (λ (w : walk-specs.State) (b : Option Group). record { steps = w.steps; spent = w.spent; best = b }) e b
 
 -- the number of a refusal's reason
 pub reason_code_settled : Settles nothing reason-code.Post
@@ -173,7 +151,7 @@ pub counted_settled : Settles nothing counted.Post
 counted_settled κs a r r' b b' h k = (check_one r r' (h ∙ sym k), refl)
 
 pub runs_settled : Settles nothing runs.Post
-runs_settled κs a r r' b b' h k = (check_one r r' (h ∙ sym k), refl)
+runs_settled κs a r r' b b' h k = (check_one r r' (h [] ∙ sym (k [])), refl)
 
 pub names_settled : Settles nothing names.Post
 names_settled κs a r r' b b' h k = (check_one r r' (h ∙ sym k), refl)
@@ -187,7 +165,7 @@ moved_settled κs a r r' b b' h k = (h ∙ sym k, refl)
 
 -- the whole walk
 pub walk_all_settled : Settles nothing walk-all.Post
-walk_all_settled κs a r r' b b' h k = (walked_one r r' (h ∙ sym k), refl)
+walk_all_settled κs a r r' b b' h k = (h ∙ sym k, refl)
 
 -- a refused search
 pub refuse_settled : Settles nothing refuse.Post
@@ -199,7 +177,7 @@ want_fault_settled κs a r r' b b' h k = (check_one r r' (h ∙ sym k), refl)
 
 -- whether the root holds every kind of a want
 pub root_holds_settled : Settles nothing root-holds.Post
-root_holds_settled κs a r r' b b' h k = (h (table [] [] []) ∙ sym (k (table [] [] [])), refl)
+root_holds_settled κs a r r' b b' h k = (h (table [] [] []) (shape _ 0 [] [] [] []) (sides [] [] [] []) refl ∙ sym (k (table [] [] []) (shape _ 0 [] [] [] []) (sides [] [] [] []) refl), refl)
 
 -- the answer that a walk ends with
 pub outcome_of_settled : Settles nothing outcome-of.Post

@@ -28,7 +28,8 @@ pub fn search_over(t: &Table, tree: &Tree, want: u64, allowance: u32) -> Found
     if let Err(r) = found::want_fault(want) {
         return found::refuse(r.reason.code(), r.at);
     }
-    if !found::root_holds(tree, want) {
+    let shape = &tree.shape;
+    if !found::root_holds(tree.kits, shape.nodes, want) {
         return found::refuse(Reason::NoGroup.code(), 0);
     }
     let l = kit::list_kinds(want);

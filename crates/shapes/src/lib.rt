@@ -1,24 +1,21 @@
 // The shape of a lent tree held against the rules 21 to 23: its counts, its runs, and what its entries name.
 #![tactic(auto)]
 
-ghost use Rattle.std.specs.Prelude.{◌≡◌, [], ◌∷◌, ◌+◌, ◌≤◌, ◌<◌, eqb, length};
+ghost use Rattle.std.specs.Prelude.{◌≡◌, List, [], ◌∷◌, ℕ, ◌+◌, ◌≤◌, ◌<◌, eqb, length};
 ghost use Rattle.verdict.specs.Rules.{AllHold, said, verdict};
 ghost use Rattle.tree.specs.Tree.{end_of, thing};
-ghost use Rattle.tree.specs.Rules.{lengths, rule21, rules22, rule23, MayName};
+ghost use Rattle.tree.specs.Rules.{rule21, rules22, rule23, MayName};
 ghost use Rattle.tree.specs.Lent;
-ghost use Rattle.tree.specs.Lent.{Columns, Decides};
+ghost use Rattle.tree.specs.Lent.{shape, Columns, Decides};
 
-use tree::{Shape, Tree};
+use tree::{Lengths, Shape};
 use verdict::{Reason, Refusal};
 
 // Internal: rule 21: the counts go with the table, and no column is too short. No sum wraps for absurd counts.
-pub fn counted(places: usize, tree: &Tree) -> Result<(), Refusal>
+pub fn counted(places: usize, nodes: usize, listed: usize, lent: Lengths) -> Result<(), Refusal>
     requires { places ≤ 4096 }
-    ensures { said result ≡ verdict (rule21 places tree.now.shape.nodes tree.now.shape.listed (lengths tree.now) ∷ []) }
+    ensures { said result ≡ verdict (rule21 places nodes listed lent ∷ []) }
 {
-    let shape = &tree.shape;
-    let nodes = shape.nodes;
-    let listed = shape.listed;
     let wrong = Refusal {
         reason: Reason::WrongCounts,
         at: 0,
@@ -33,7 +30,7 @@ pub fn counted(places: usize, tree: &Tree) -> Result<(), Refusal>
     } else if places == 0 || listed != places + nodes - 1 {
         return Err(wrong);
     }
-    if !tree::has_room(nodes, listed, tree.lengths()) {
+    if !tree::has_room(nodes, listed, lent) {
         return Err(wrong);
     }
     Ok(())
@@ -42,7 +39,7 @@ pub fn counted(places: usize, tree: &Tree) -> Result<(), Refusal>
 // Internal: rule 22: each level is 1 to 6, each count 1 to 16, and the runs lie end to end.
 pub fn runs(s: &Shape) -> Result<(), Refusal>
     requires { (s.now.nodes ≤ 2048) × ((s.now.nodes ≤ length s.now.level) × ((s.now.nodes ≤ length s.now.start) × (s.now.nodes ≤ length s.now.count))) }
-    ensures { said result ≡ verdict (rules22 s.now) }
+    ensures { (entries : List ℕ) → said result ≡ verdict (rules22 (shape s.now.nodes s.now.listed s.now.level s.now.start s.now.count entries)) }
 {
     let nodes = s.nodes;
     let mut due: usize = 0;

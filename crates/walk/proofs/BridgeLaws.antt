@@ -26,8 +26,9 @@ use Rattle.closest.proofs.CandidateLaws.{group_is}
 use Rattle.closest.proofs.ReachLaws.{Fine, closed}
 use Rattle.closest.proofs.AnswerLaws.{sound, begun_of, roots_fine}
 use Rattle.groups.specs.Leads.{bound_of, kept, walk_best}
-use Rattle.walk.specs.State.{State, best_of, state_of}
-use Rattle.members.specs.Best.{Best}
+use Rattle.walk.specs.State.{best_of, state_of}
+use Rattle.walk.specs.declared.State.{State}
+use Rattle.members.specs.declared.Best.{Best}
 
 -- zeros behind do not change which of two groups of one size comes first
 before_append : (a b z : List ℕ) → length a ≡ length b → before (a ++ z) (b ++ z) ≡ before a b

@@ -14,7 +14,6 @@ use Rattle.tree.specs.Tree.{Tree, Shape, Sides, Thing, place, node, level, level
 use Rattle.tree.specs.Lent.{sides}
 use Rattle.closest.specs.Candidate.{member, topmost, group_of, entries_of}
 use Rattle.closest.specs.Walk.{roots}
-use Rattle.std.specs.Prelude.{None}
 use Rattle.plane.specs.declared.Box.{Box}
 use Rattle.tree.specs.Rules.{lengths, Room}
 use Rattle.walks.specs.Allowance.{Stand, stand}
@@ -23,7 +22,8 @@ use Rattle.closest.proofs.AnswerLaws.{begun_of}
 use Rattle.members.specs.declared.Want.{Want}
 use Rattle.members.specs.declared.Members.{Members}
 use Rattle.members.specs.Columns.{eight_of}
-use Rattle.members.specs.Best.{Best, best_in}
+use Rattle.members.specs.declared.Best.{Best}
+use Rattle.members.specs.Best.{best_at}
 use Rattle.groups.specs.Opening.{Opened, Led}
 use Rattle.groups.specs.Leads.{leads}
 use Rattle.groups.proofs.EntryLaws.{meets}
@@ -116,7 +116,7 @@ module _ (m : ℕ) (a : Member) (few : m ≤ 8) where
 -- the walk from the root on
 module _ {t : Table} {tree : Tree} (p : Passes t tree) (w : Want) (few : Few w.m w.kinds) (eight : length w.kinds ≡ 8) (begun : begins t tree (wanted w) ≡ true) where
   abbrev nothing : Best
-  nothing = best_in None
+  nothing = best_at false 0 (replicate 8 0)
 
   some : 0 < tree.shape.nodes
   some = (begun_of (wanted w) begun).some

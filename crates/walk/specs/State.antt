@@ -1,22 +1,13 @@
 -- Where a walk stands, as the code has it.
 -- Assumes nothing.
-use Rattle.std.specs.Prelude.{Bool, true, false, List, ℕ, replicate}
+use Rattle.std.specs.Prelude.{true, false, List, ℕ, replicate}
 use Rattle.std.proofs.Math.Option.{Option, none, some}
 use Rattle.kit.specs.Kit.{padded}
 use Rattle.table.specs.Table.{Table}
 use Rattle.walks.specs.Allowance.{Stand}
 use Rattle.closest.specs.Group.{diameter}
-use Rattle.members.specs.Best.{Best, best_in}
-use Rattle.walk.specs.declared.State.{State as Stood}
-
--- the steps that were taken, whether the allowance was spent, and the best known
-pub record State : Type 0 where
-  pub steps : ℕ
-  pub spent : Bool
-  pub best : Best
-
-abbrev pub walked : Stood → State
-walked s = record { steps = s.steps; spent = s.spent; best = best_in s.best }
+use Rattle.members.specs.declared.Best.{Best}
+use Rattle.walk.specs.declared.State.{State}
 
 -- the best group known; its unused place numbers are 0
 abbrev pub best_of : Table → Option (List ℕ) → Best

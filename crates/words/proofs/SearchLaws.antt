@@ -14,7 +14,7 @@ use Rattle.verdict.specs.Rules.{verdict}
 use Rattle.verdict.specs.Rules.{Verdict}
 use Rattle.closest.specs.Walk.{begins, stands_at}
 use Rattle.walk.specs.State.{best_of, state_of}
-use Rattle.walk.specs.State.{State}
+use Rattle.walk.specs.declared.State.{State}
 use Rattle.found.specs.Search.{refused, said, outcome, search_rules, searched}
 use Rattle.found.specs.declared.Found.{Found}
 use Rattle.words.specs.Words.{flag, found_words}

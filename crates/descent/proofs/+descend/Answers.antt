@@ -1,10 +1,9 @@
-use Rattle.std.proofs.Common.{refl, ◌≡◌, ◌+◌, ◌-◌, ◌*◌, ◌<◌, ◌∙◌, sym, ap, ap₂, subst, length, get_or, arith, Option, ℕ, false}
+use Rattle.std.proofs.Common.{refl, ◌≡◌, ◌+◌, ◌-◌, ◌*◌, ◌<◌, ◌∙◌, sym, ap, ap₂, subst, length, get_or, arith, ℕ, false}
 use Rattle.tree.specs.Tree.{Tree, Shape, Sides, thing, box_of}
 use Rattle.walks.specs.Allowance.{stand}
-use Rattle.members.specs.declared.Group.{Group}
+use Rattle.members.specs.declared.Best.{Best}
 use Rattle.members.specs.Columns.{sides_of}
 use Rattle.members.specs.Levels.{next_high}
-use Rattle.members.specs.Best.{best_in}
 use Rattle.members.proofs.LevelLaws.{top_in as next_in, high_last}
 use Rattle.groups.specs.Members.{wanted, candidate}
 use Rattle.groups.specs.Opening.{Opened, Led}
@@ -35,7 +34,7 @@ take_groups-requires-clause-opened t c =
     let i = top_in c.requires.passes c.args.w.now c.requires.few c.args.top c.args.high c.args.c.now c.requires.opened in
     let h = top_high c.requires.passes c.args.w.now c.requires.few c.args.top c.args.high c.args.c.now c.requires.opened in
     let leaf = (high_last c.args.w.now.m c.args.top c.args.high i h (sym c.next_high-lower.ensures ∙ c.if-lower-eq0.true)).1 in
-    subst (λ (v : ℕ). Opened c.args.t.now c.args.tree.now (wanted c.args.w.now) c.args.w.now.m (candidate c.args.w.now.m c.args.top v c.args.c.now) c.args.top (best_in c.args.p.now.best)) leaf c.requires.opened
+    subst (λ (v : ℕ). Opened c.args.t.now c.args.tree.now (wanted c.args.w.now) c.args.w.now.m (candidate c.args.w.now.m c.args.top v c.args.c.now) c.args.top c.args.p.now.best) leaf c.requires.opened
 
 pub returns-then-lower-eq0 : goal.returns-then-lower-eq0
 returns-then-lower-eq0 t c =
@@ -44,7 +43,7 @@ returns-then-lower-eq0 t c =
     let leaf = (high_last c.args.w.now.m c.args.top c.args.high i h (sym c.next_high-lower.ensures ∙ c.if-lower-eq0.true)).1 in
     subst
     (λ (v : ℕ).
-    Led c.args.t.now c.args.tree.now (wanted c.args.w.now) c.args.w.now.allowance c.args.w.now.m (candidate c.args.w.now.m c.args.top v c.args.c.now) c.args.top (stand c.args.p.now.steps false (best_in c.args.p.now.best)) (stand c.take_groups.new.p.steps c.take_groups.result (best_in c.take_groups.new.p.best)))
+    Led c.args.t.now c.args.tree.now (wanted c.args.w.now) c.args.w.now.allowance c.args.w.now.m (candidate c.args.w.now.m c.args.top v c.args.c.now) c.args.top (stand c.args.p.now.steps false c.args.p.now.best) (stand c.take_groups.new.p.steps c.take_groups.result c.take_groups.new.p.best))
     (sym leaf) c.take_groups.ensures
 
 -- ---- any other is opened
@@ -89,7 +88,7 @@ holds_at-requires-clause-i_in_bounds_3 t c =
 pub returns-then-not-take_step : goal.returns-then-not-take_step
 returns-then-not-take_step t c =
     let z = round c.args.w.now c.args.top c.args.high c.args.c.now c.requires.passes c.requires.few c.requires.opened (ap (λ (r : Tree). r.shape) c.tree.view_is) c.open_at-o.ensures in
-    rw c.take_step.ensures.kept (spent z c.loop-k.k c.loop-k-test.true c.loop-k.invariant.going c.holds_at.ensures c.if-holds_at.true c.take_step.ensures.stepped c.if-not-take_step.true)
+    rw c.take_step.ensures.kept (spent z c.loop-k.k c.loop-k-test.true c.loop-k.invariant.going (c.holds_at.ensures c.args.t.now.x c.args.t.now.y) c.if-holds_at.true c.take_step.ensures.stepped c.if-not-take_step.true)
 
 pub offset_bounds-entries-here : goal.offset_bounds-entries-here
 offset_bounds-entries-here t c =
@@ -129,7 +128,7 @@ is_near-requires-clause-all_ranged t c =
     let v = ap (λ (r : Tree). r.shape) c.tree.view_is in
     let z = round c.args.w.now c.args.top c.args.high c.args.c.now c.requires.passes c.requires.few c.requires.opened v c.open_at-o.ensures in
     let n = c.from.ensures ∙ ap (λ (s : Shape). get_or s.entries (c.open_at-o.result.first + c.loop-k.k) 0) (c.shape.view_is ∙ v) in
-    let is = c.box_of-b.ensures ∙ ap₂ (λ (s : Sides) (j : ℕ). box_of c.args.t.now s (thing c.open_at-o.result.leaf j)) (ap (λ (r : Tree). r.sides) c.tree.view_is) n in
+    let is = (c.box_of-b.ensures c.args.t.now.kit) ∙ ap₂ (λ (s : Sides) (j : ℕ). box_of c.args.t.now s (thing c.open_at-o.result.leaf j)) (ap (λ (r : Tree). r.sides) c.tree.view_is) n in
     (c.loop-k.invariant.ranged, box_ranged z c.loop-k.k c.loop-k-test.true is)
 
 pub put-requires : goal.put-requires
@@ -144,9 +143,9 @@ take_groups-requires-then-left-eq0-clause-opened t c =
     let m = ap (λ (s : Shape). get_or s.entries (c.open_at-o.result.first + c.loop-k.k) 0) (c.shape.view_is ∙ v) in
     let eight : Eight c.args.c.now.numbers (sides_of c.args.c.now) = record { number = omega arith; x_lo = omega arith; x_hi = omega arith; y_lo = omega arith; y_hi = omega arith } in
     let some : 0 < next_high c.args.w.now.m c.args.top c.args.high = omega (arith, c.if-lower-eq0.false, c.next_high-lower.ensures) in
-    let is = c.box_of-b.ensures ∙ ap₂ (λ (s : Sides) (j : ℕ). box_of c.args.t.now s (thing c.open_at-o.result.leaf j)) (ap (λ (r : Tree). r.sides) c.tree.view_is) (c.from.ensures ∙ m) in
-    let g = subst (λ (q : Option Group). Going c.args.t.now c.args.tree.now (wanted c.args.w.now) c.args.w.now.allowance c.args.w.now.m (candidate c.args.w.now.m c.args.top c.args.high c.args.c.now) c.open_at-o.result (stand c.args.p.now.steps false (best_in c.args.p.now.best)) c.loop-k.p.steps (best_in q) c.loop-k.k) (sym c.take_step.ensures.kept) c.loop-k.invariant.going in
-    let near = near_next z c.loop-k.k c.loop-k-test.true eight c.loop-k.invariant.eight c.loop-k.invariant.beside is (best_in c.take_step.new.self.best) c.is_near.ensures c.if-is_near.true in
+    let is = (c.box_of-b.ensures c.args.t.now.kit) ∙ ap₂ (λ (s : Sides) (j : ℕ). box_of c.args.t.now s (thing c.open_at-o.result.leaf j)) (ap (λ (r : Tree). r.sides) c.tree.view_is) (c.from.ensures ∙ m) in
+    let g = subst (λ (q : Best). Going c.args.t.now c.args.tree.now (wanted c.args.w.now) c.args.w.now.allowance c.args.w.now.m (candidate c.args.w.now.m c.args.top c.args.high c.args.c.now) c.open_at-o.result (stand c.args.p.now.steps false c.args.p.now.best) c.loop-k.p.steps q c.loop-k.k) (sym c.take_step.ensures.kept) c.loop-k.invariant.going in
+    let near = near_next z c.loop-k.k c.loop-k-test.true eight c.loop-k.invariant.eight c.loop-k.invariant.beside is c.take_step.new.self.best c.is_near.ensures c.if-is_near.true in
     let next : c.next_top-next.result < c.args.w.now.m = omega (arith, c.next_top-next.ensures, next_in c.args.w.now.m c.args.top (top_in c.requires.passes c.args.w.now c.requires.few c.args.top c.args.high c.args.c.now c.requires.opened)) in
     let leaf = (high_last c.args.w.now.m c.next_top-next.result c.next_high-lower.result next (omega (arith, c.if-lower-eq0.false)) (sym c.next_high-left.ensures ∙ c.if-left-eq0.true)).1 in
     opens_below z c.loop-k.k c.loop-k-test.true eight c.loop-k.invariant.beside m is c.put.ensures c.next_top-next.ensures (sym leaf ∙ c.next_high-lower.ensures) some g near
@@ -158,12 +157,12 @@ returns-then-take_groups t c =
     let m = ap (λ (s : Shape). get_or s.entries (c.open_at-o.result.first + c.loop-k.k) 0) (c.shape.view_is ∙ v) in
     let eight : Eight c.args.c.now.numbers (sides_of c.args.c.now) = record { number = omega arith; x_lo = omega arith; x_hi = omega arith; y_lo = omega arith; y_hi = omega arith } in
     let some : 0 < next_high c.args.w.now.m c.args.top c.args.high = omega (arith, c.if-lower-eq0.false, c.next_high-lower.ensures) in
-    let is = c.box_of-b.ensures ∙ ap₂ (λ (s : Sides) (j : ℕ). box_of c.args.t.now s (thing c.open_at-o.result.leaf j)) (ap (λ (r : Tree). r.sides) c.tree.view_is) (c.from.ensures ∙ m) in
-    let g = subst (λ (q : Option Group). Going c.args.t.now c.args.tree.now (wanted c.args.w.now) c.args.w.now.allowance c.args.w.now.m (candidate c.args.w.now.m c.args.top c.args.high c.args.c.now) c.open_at-o.result (stand c.args.p.now.steps false (best_in c.args.p.now.best)) c.loop-k.p.steps (best_in q) c.loop-k.k) (sym c.take_step.ensures.kept) c.loop-k.invariant.going in
-    let near = near_next z c.loop-k.k c.loop-k-test.true eight c.loop-k.invariant.eight c.loop-k.invariant.beside is (best_in c.take_step.new.self.best) c.is_near.ensures c.if-is_near.true in
+    let is = (c.box_of-b.ensures c.args.t.now.kit) ∙ ap₂ (λ (s : Sides) (j : ℕ). box_of c.args.t.now s (thing c.open_at-o.result.leaf j)) (ap (λ (r : Tree). r.sides) c.tree.view_is) (c.from.ensures ∙ m) in
+    let g = subst (λ (q : Best). Going c.args.t.now c.args.tree.now (wanted c.args.w.now) c.args.w.now.allowance c.args.w.now.m (candidate c.args.w.now.m c.args.top c.args.high c.args.c.now) c.open_at-o.result (stand c.args.p.now.steps false c.args.p.now.best) c.loop-k.p.steps q c.loop-k.k) (sym c.take_step.ensures.kept) c.loop-k.invariant.going in
+    let near = near_next z c.loop-k.k c.loop-k-test.true eight c.loop-k.invariant.eight c.loop-k.invariant.beside is c.take_step.new.self.best c.is_near.ensures c.if-is_near.true in
     let next : c.next_top-next.result < c.args.w.now.m = omega (arith, c.next_top-next.ensures, next_in c.args.w.now.m c.args.top (top_in c.requires.passes c.args.w.now c.requires.few c.args.top c.args.high c.args.c.now c.requires.opened)) in
     let leaf = (high_last c.args.w.now.m c.next_top-next.result c.next_high-lower.result next (omega (arith, c.if-lower-eq0.false)) (sym c.next_high-left.ensures ∙ c.if-left-eq0.true)).1 in
-    stops_below z c.loop-k.k c.loop-k-test.true eight c.loop-k.invariant.beside m is c.put.ensures c.next_top-next.ensures (sym leaf ∙ c.next_high-lower.ensures) some g near c.holds_at.ensures c.if-holds_at.true c.take_step.ensures.stepped c.if-not-take_step.false c.take_groups-then-left-eq0.ensures c.if-take_groups.true
+    stops_below z c.loop-k.k c.loop-k-test.true eight c.loop-k.invariant.beside m is c.put.ensures c.next_top-next.ensures (sym leaf ∙ c.next_high-lower.ensures) some g near (c.holds_at.ensures c.args.t.now.x c.args.t.now.y) c.if-holds_at.true c.take_step.ensures.stepped c.if-not-take_step.false c.take_groups-then-left-eq0.ensures c.if-take_groups.true
 
 pub descend-requires : goal.descend-requires
 descend-requires t c =
@@ -172,14 +171,14 @@ descend-requires t c =
     let m = ap (λ (s : Shape). get_or s.entries (c.open_at-o.result.first + c.loop-k.k) 0) (c.shape.view_is ∙ v) in
     let eight : Eight c.args.c.now.numbers (sides_of c.args.c.now) = record { number = omega arith; x_lo = omega arith; x_hi = omega arith; y_lo = omega arith; y_hi = omega arith } in
     let some : 0 < next_high c.args.w.now.m c.args.top c.args.high = omega (arith, c.if-lower-eq0.false, c.next_high-lower.ensures) in
-    let is = c.box_of-b.ensures ∙ ap₂ (λ (s : Sides) (j : ℕ). box_of c.args.t.now s (thing c.open_at-o.result.leaf j)) (ap (λ (r : Tree). r.sides) c.tree.view_is) (c.from.ensures ∙ m) in
-    let g = subst (λ (q : Option Group). Going c.args.t.now c.args.tree.now (wanted c.args.w.now) c.args.w.now.allowance c.args.w.now.m (candidate c.args.w.now.m c.args.top c.args.high c.args.c.now) c.open_at-o.result (stand c.args.p.now.steps false (best_in c.args.p.now.best)) c.loop-k.p.steps (best_in q) c.loop-k.k) (sym c.take_step.ensures.kept) c.loop-k.invariant.going in
-    let near = near_next z c.loop-k.k c.loop-k-test.true eight c.loop-k.invariant.eight c.loop-k.invariant.beside is (best_in c.take_step.new.self.best) c.is_near.ensures c.if-is_near.true in
+    let is = (c.box_of-b.ensures c.args.t.now.kit) ∙ ap₂ (λ (s : Sides) (j : ℕ). box_of c.args.t.now s (thing c.open_at-o.result.leaf j)) (ap (λ (r : Tree). r.sides) c.tree.view_is) (c.from.ensures ∙ m) in
+    let g = subst (λ (q : Best). Going c.args.t.now c.args.tree.now (wanted c.args.w.now) c.args.w.now.allowance c.args.w.now.m (candidate c.args.w.now.m c.args.top c.args.high c.args.c.now) c.open_at-o.result (stand c.args.p.now.steps false c.args.p.now.best) c.loop-k.p.steps q c.loop-k.k) (sym c.take_step.ensures.kept) c.loop-k.invariant.going in
+    let near = near_next z c.loop-k.k c.loop-k-test.true eight c.loop-k.invariant.eight c.loop-k.invariant.beside is c.take_step.new.self.best c.is_near.ensures c.if-is_near.true in
     let i = top_in c.requires.passes c.args.w.now c.requires.few c.args.top c.args.high c.args.c.now c.requires.opened in
     let h = top_high c.requires.passes c.args.w.now c.requires.few c.args.top c.args.high c.args.c.now c.requires.opened in
     let now : c.args.high * 8 + 8 - c.args.top ≡ t = c.decreases in
     let less : c.next_high-lower.result * 8 + 8 - c.next_top-next.result < t = omega (arith, now, falls c.args.w.now.m c.args.top c.args.high c.requires.few.most i h, c.next_top-next.ensures, c.next_high-lower.ensures) in
-    (less, (c.requires.passes, (c.requires.few, opens_below z c.loop-k.k c.loop-k-test.true eight c.loop-k.invariant.beside m is c.put-else-left-eq0.ensures c.next_top-next.ensures c.next_high-lower.ensures some g near)))
+    (less, (c.requires.passes, (c.requires.few, opens_below z c.loop-k.k c.loop-k-test.true eight c.loop-k.invariant.beside m is c.put.ensures c.next_top-next.ensures c.next_high-lower.ensures some g near)))
 
 pub returns-then-descend : goal.returns-then-descend
 returns-then-descend t c =
@@ -188,13 +187,10 @@ returns-then-descend t c =
     let m = ap (λ (s : Shape). get_or s.entries (c.open_at-o.result.first + c.loop-k.k) 0) (c.shape.view_is ∙ v) in
     let eight : Eight c.args.c.now.numbers (sides_of c.args.c.now) = record { number = omega arith; x_lo = omega arith; x_hi = omega arith; y_lo = omega arith; y_hi = omega arith } in
     let some : 0 < next_high c.args.w.now.m c.args.top c.args.high = omega (arith, c.if-lower-eq0.false, c.next_high-lower.ensures) in
-    let is = c.box_of-b.ensures ∙ ap₂ (λ (s : Sides) (j : ℕ). box_of c.args.t.now s (thing c.open_at-o.result.leaf j)) (ap (λ (r : Tree). r.sides) c.tree.view_is) (c.from.ensures ∙ m) in
-    let g = subst (λ (q : Option Group). Going c.args.t.now c.args.tree.now (wanted c.args.w.now) c.args.w.now.allowance c.args.w.now.m (candidate c.args.w.now.m c.args.top c.args.high c.args.c.now) c.open_at-o.result (stand c.args.p.now.steps false (best_in c.args.p.now.best)) c.loop-k.p.steps (best_in q) c.loop-k.k) (sym c.take_step.ensures.kept) c.loop-k.invariant.going in
-    let near = near_next z c.loop-k.k c.loop-k-test.true eight c.loop-k.invariant.eight c.loop-k.invariant.beside is (best_in c.take_step.new.self.best) c.is_near.ensures c.if-is_near.true in
-    stops_below z c.loop-k.k c.loop-k-test.true eight c.loop-k.invariant.beside m is c.put-else-left-eq0.ensures c.next_top-next.ensures c.next_high-lower.ensures some g near c.holds_at.ensures c.if-holds_at.true c.take_step.ensures.stepped c.if-not-take_step.false c.descend.ensures c.if-descend.true
-
-pub put-requires-else-left-eq0 : goal.put-requires-else-left-eq0
-put-requires-else-left-eq0 t c = omega (arith, top_in c.requires.passes c.args.w.now c.requires.few c.args.top c.args.high c.args.c.now c.requires.opened, c.requires.few.most)
+    let is = (c.box_of-b.ensures c.args.t.now.kit) ∙ ap₂ (λ (s : Sides) (j : ℕ). box_of c.args.t.now s (thing c.open_at-o.result.leaf j)) (ap (λ (r : Tree). r.sides) c.tree.view_is) (c.from.ensures ∙ m) in
+    let g = subst (λ (q : Best). Going c.args.t.now c.args.tree.now (wanted c.args.w.now) c.args.w.now.allowance c.args.w.now.m (candidate c.args.w.now.m c.args.top c.args.high c.args.c.now) c.open_at-o.result (stand c.args.p.now.steps false c.args.p.now.best) c.loop-k.p.steps q c.loop-k.k) (sym c.take_step.ensures.kept) c.loop-k.invariant.going in
+    let near = near_next z c.loop-k.k c.loop-k-test.true eight c.loop-k.invariant.eight c.loop-k.invariant.beside is c.take_step.new.self.best c.is_near.ensures c.if-is_near.true in
+    stops_below z c.loop-k.k c.loop-k-test.true eight c.loop-k.invariant.beside m is c.put.ensures c.next_top-next.ensures c.next_high-lower.ensures some g near (c.holds_at.ensures c.args.t.now.x c.args.t.now.y) c.if-holds_at.true c.take_step.ensures.stepped c.if-not-take_step.false c.descend.ensures c.if-descend.true
 
 -- ---- one entry on
 
@@ -207,42 +203,42 @@ loop-k-preserved t c =
     let some : 0 < next_high c.args.w.now.m c.args.top c.args.high = omega (arith, c.if-lower-eq0.false, c.next_high-lower.ensures) in
     elim c.if-holds_at.branch [
       | then-holds_at+else-not-take_step+then-is_near+then-left-eq0+else-take_groups w ↦ (
-          let is = w.box_of-b.ensures ∙ ap₂ (λ (s : Sides) (j : ℕ). box_of c.args.t.now s (thing c.open_at-o.result.leaf j)) (ap (λ (r : Tree). r.sides) c.tree.view_is) (w.from.ensures ∙ m) in
-          let g = subst (λ (q : Option Group). Going c.args.t.now c.args.tree.now (wanted c.args.w.now) c.args.w.now.allowance c.args.w.now.m (candidate c.args.w.now.m c.args.top c.args.high c.args.c.now) c.open_at-o.result (stand c.args.p.now.steps false (best_in c.args.p.now.best)) c.loop-k.p.steps (best_in q) c.loop-k.k) (sym w.take_step.ensures.kept) c.loop-k.invariant.going in
-          let near = near_next z c.loop-k.k c.loop-k-test.true eight c.loop-k.invariant.eight c.loop-k.invariant.beside is (best_in w.take_step.new.self.best) w.is_near.ensures w.if-is_near.true in
+          let is = (w.box_of-b.ensures c.args.t.now.kit) ∙ ap₂ (λ (s : Sides) (j : ℕ). box_of c.args.t.now s (thing c.open_at-o.result.leaf j)) (ap (λ (r : Tree). r.sides) c.tree.view_is) (w.from.ensures ∙ m) in
+          let g = subst (λ (q : Best). Going c.args.t.now c.args.tree.now (wanted c.args.w.now) c.args.w.now.allowance c.args.w.now.m (candidate c.args.w.now.m c.args.top c.args.high c.args.c.now) c.open_at-o.result (stand c.args.p.now.steps false c.args.p.now.best) c.loop-k.p.steps q c.loop-k.k) (sym w.take_step.ensures.kept) c.loop-k.invariant.going in
+          let near = near_next z c.loop-k.k c.loop-k-test.true eight c.loop-k.invariant.eight c.loop-k.invariant.beside is w.take_step.new.self.best w.is_near.ensures w.if-is_near.true in
           let next : c.next_top-next.result < c.args.w.now.m = omega (arith, c.next_top-next.ensures, next_in c.args.w.now.m c.args.top (top_in c.requires.passes c.args.w.now c.requires.few c.args.top c.args.high c.args.c.now c.requires.opened)) in
           let leaf = (high_last c.args.w.now.m c.next_top-next.result c.next_high-lower.result next (omega (arith, c.if-lower-eq0.false)) (sym c.next_high-left.ensures ∙ w.if-left-eq0.true)).1 in
           record {
-            going = rw w.p-is (goes_below z c.loop-k.k c.loop-k-test.true eight c.loop-k.invariant.beside m is w.put.ensures c.next_top-next.ensures (sym leaf ∙ c.next_high-lower.ensures) some g near c.holds_at.ensures w.if-holds_at.true w.take_step.ensures.stepped w.if-not-take_step.false w.take_groups-then-left-eq0.ensures w.if-take_groups.false);
-            beside = rw (w.c-is, w.put.ensures) (beside_put c.args.top c.loop-k.invariant.beside _ _);
-            eight = rw (w.c-is, w.put.ensures) (eight_put _ _ c.loop-k.invariant.eight c.args.top _ _);
-            ranged = rw w.c-is (came_ranged z c.loop-k.k c.loop-k-test.true eight c.loop-k.invariant.beside m is w.put.ensures c.next_top-next.ensures (sym leaf ∙ c.next_high-lower.ensures));
+            going = rw w.p-is (goes_below z c.loop-k.k c.loop-k-test.true eight c.loop-k.invariant.beside m is w.put.ensures c.next_top-next.ensures (sym leaf ∙ c.next_high-lower.ensures) some g near (c.holds_at.ensures c.args.t.now.x c.args.t.now.y) w.if-holds_at.true w.take_step.ensures.stepped w.if-not-take_step.false w.take_groups-then-left-eq0.ensures w.if-take_groups.false);
+            beside = rw (w.below-is, w.put.ensures) (beside_put c.args.top c.loop-k.invariant.beside _ _);
+            eight = rw (w.below-is, w.put.ensures) (eight_put _ _ c.loop-k.invariant.eight c.args.top _ _);
+            ranged = rw w.below-is (came_ranged z c.loop-k.k c.loop-k-test.true eight c.loop-k.invariant.beside m is w.put.ensures c.next_top-next.ensures (sym leaf ∙ c.next_high-lower.ensures));
           })
       | then-holds_at+else-not-take_step+then-is_near+else-left-eq0+else-descend w ↦ (
-          let is = w.box_of-b.ensures ∙ ap₂ (λ (s : Sides) (j : ℕ). box_of c.args.t.now s (thing c.open_at-o.result.leaf j)) (ap (λ (r : Tree). r.sides) c.tree.view_is) (w.from.ensures ∙ m) in
-          let g = subst (λ (q : Option Group). Going c.args.t.now c.args.tree.now (wanted c.args.w.now) c.args.w.now.allowance c.args.w.now.m (candidate c.args.w.now.m c.args.top c.args.high c.args.c.now) c.open_at-o.result (stand c.args.p.now.steps false (best_in c.args.p.now.best)) c.loop-k.p.steps (best_in q) c.loop-k.k) (sym w.take_step.ensures.kept) c.loop-k.invariant.going in
-          let near = near_next z c.loop-k.k c.loop-k-test.true eight c.loop-k.invariant.eight c.loop-k.invariant.beside is (best_in w.take_step.new.self.best) w.is_near.ensures w.if-is_near.true in
+          let is = (w.box_of-b.ensures c.args.t.now.kit) ∙ ap₂ (λ (s : Sides) (j : ℕ). box_of c.args.t.now s (thing c.open_at-o.result.leaf j)) (ap (λ (r : Tree). r.sides) c.tree.view_is) (w.from.ensures ∙ m) in
+          let g = subst (λ (q : Best). Going c.args.t.now c.args.tree.now (wanted c.args.w.now) c.args.w.now.allowance c.args.w.now.m (candidate c.args.w.now.m c.args.top c.args.high c.args.c.now) c.open_at-o.result (stand c.args.p.now.steps false c.args.p.now.best) c.loop-k.p.steps q c.loop-k.k) (sym w.take_step.ensures.kept) c.loop-k.invariant.going in
+          let near = near_next z c.loop-k.k c.loop-k-test.true eight c.loop-k.invariant.eight c.loop-k.invariant.beside is w.take_step.new.self.best w.is_near.ensures w.if-is_near.true in
           record {
-            going = rw w.p-is (goes_below z c.loop-k.k c.loop-k-test.true eight c.loop-k.invariant.beside m is w.put-else-left-eq0.ensures c.next_top-next.ensures c.next_high-lower.ensures some g near c.holds_at.ensures w.if-holds_at.true w.take_step.ensures.stepped w.if-not-take_step.false w.descend.ensures w.if-descend.false);
-            beside = rw w.c-is c.loop-k.invariant.beside;
-            eight = rw w.c-is c.loop-k.invariant.eight;
-            ranged = rw w.c-is c.loop-k.invariant.ranged;
+            going = rw w.p-is (goes_below z c.loop-k.k c.loop-k-test.true eight c.loop-k.invariant.beside m is w.put.ensures c.next_top-next.ensures c.next_high-lower.ensures some g near (c.holds_at.ensures c.args.t.now.x c.args.t.now.y) w.if-holds_at.true w.take_step.ensures.stepped w.if-not-take_step.false w.descend.ensures w.if-descend.false);
+            beside = rw (w.below-is, w.put.ensures) (beside_put c.args.top c.loop-k.invariant.beside _ _);
+            eight = rw (w.below-is, w.put.ensures) (eight_put _ _ c.loop-k.invariant.eight c.args.top _ _);
+            ranged = rw w.below-is (came_ranged z c.loop-k.k c.loop-k-test.true eight c.loop-k.invariant.beside m is w.put.ensures c.next_top-next.ensures c.next_high-lower.ensures);
           })
       | then-holds_at+else-not-take_step+else-is_near w ↦ (
-          let is = w.box_of-b.ensures ∙ ap₂ (λ (s : Sides) (j : ℕ). box_of c.args.t.now s (thing c.open_at-o.result.leaf j)) (ap (λ (r : Tree). r.sides) c.tree.view_is) (w.from.ensures ∙ m) in
-          let g = subst (λ (q : Option Group). Going c.args.t.now c.args.tree.now (wanted c.args.w.now) c.args.w.now.allowance c.args.w.now.m (candidate c.args.w.now.m c.args.top c.args.high c.args.c.now) c.open_at-o.result (stand c.args.p.now.steps false (best_in c.args.p.now.best)) c.loop-k.p.steps (best_in q) c.loop-k.k) (sym w.take_step.ensures.kept) c.loop-k.invariant.going in
-          let far = beyond z c.loop-k.k c.loop-k-test.true eight c.loop-k.invariant.eight c.loop-k.invariant.beside is (best_in w.take_step.new.self.best) w.is_near.ensures w.if-is_near.false in
+          let is = (w.box_of-b.ensures c.args.t.now.kit) ∙ ap₂ (λ (s : Sides) (j : ℕ). box_of c.args.t.now s (thing c.open_at-o.result.leaf j)) (ap (λ (r : Tree). r.sides) c.tree.view_is) (w.from.ensures ∙ m) in
+          let g = subst (λ (q : Best). Going c.args.t.now c.args.tree.now (wanted c.args.w.now) c.args.w.now.allowance c.args.w.now.m (candidate c.args.w.now.m c.args.top c.args.high c.args.c.now) c.open_at-o.result (stand c.args.p.now.steps false c.args.p.now.best) c.loop-k.p.steps q c.loop-k.k) (sym w.take_step.ensures.kept) c.loop-k.invariant.going in
+          let far = beyond z c.loop-k.k c.loop-k-test.true eight c.loop-k.invariant.eight c.loop-k.invariant.beside is w.take_step.new.self.best w.is_near.ensures w.if-is_near.false in
           record {
-            going = rw w.p-is (dropped z c.loop-k.k c.loop-k-test.true g c.holds_at.ensures w.if-holds_at.true w.take_step.ensures.stepped w.if-not-take_step.false far.0 far.1);
-            beside = rw w.c-is c.loop-k.invariant.beside;
-            eight = rw w.c-is c.loop-k.invariant.eight;
-            ranged = rw w.c-is c.loop-k.invariant.ranged;
+            going = rw w.p-is (dropped z c.loop-k.k c.loop-k-test.true g (c.holds_at.ensures c.args.t.now.x c.args.t.now.y) w.if-holds_at.true w.take_step.ensures.stepped w.if-not-take_step.false far.0 far.1);
+            beside = rw w.below-is c.loop-k.invariant.beside;
+            eight = rw w.below-is c.loop-k.invariant.eight;
+            ranged = rw w.below-is c.loop-k.invariant.ranged;
           })
       | else-holds_at w ↦ record {
-        going = rw w.p-is (skipped z c.loop-k.k c.loop-k-test.true c.loop-k.invariant.going c.holds_at.ensures w.if-holds_at.false);
-        beside = rw w.c-is c.loop-k.invariant.beside;
-        eight = rw w.c-is c.loop-k.invariant.eight;
-        ranged = rw w.c-is c.loop-k.invariant.ranged;
+        going = rw w.p-is (skipped z c.loop-k.k c.loop-k-test.true c.loop-k.invariant.going (c.holds_at.ensures c.args.t.now.x c.args.t.now.y) w.if-holds_at.false);
+        beside = rw w.below-is c.loop-k.invariant.beside;
+        eight = rw w.below-is c.loop-k.invariant.eight;
+        ranged = rw w.below-is c.loop-k.invariant.ranged;
       }
     ]
 

@@ -1,9 +1,9 @@
-use Rattle.std.proofs.Common.{◌≡◌, ◌+◌, ◌∙◌, ap, length, get_or, set, take, arith, refl, Option}
+use Rattle.std.proofs.Common.{◌≡◌, ◌+◌, ◌∙◌, ap, length, get_or, set, take, arith, refl}
 use Rattle.kit.specs.Kit.{held, padded}
 use Rattle.table.specs.Table.{Table}
 use Rattle.tree.specs.Tree.{Tree, Shape, Sides, box_at}
-use Rattle.members.specs.declared.Group.{Group}
-use Rattle.members.specs.Best.{best_in, limit_of, improved}
+use Rattle.members.specs.declared.Best.{Best}
+use Rattle.members.specs.Best.{limit_of, improved}
 use Rattle.groups.proofs.RoundLaws.{round, node_in, ranged_in, done, at_list, at_few, box_ranged, skipped, spent, too_far, learnt, place_in, place_held, place_box}
 use Rattle.groups.proofs.take_groups.Goals as goal
 use Rattle.groups.proofs.take_groups.Goals.{then-holds+else-not-take_step+then-row-limit, then-holds+else-not-take_step+else-row-limit, else-holds}
@@ -73,15 +73,15 @@ loop-k-preserved c =
     elim c.if-holds.branch [
       | then-holds+else-not-take_step+then-row-limit w ↦ (
           let is = place_box z c.loop-k.k c.loop-k-test.true n (w.box_at.ensures ∙ ap (λ (b : Sides). box_at b c.from-e.result) c.of_points-points.ensures) in
-          let l = w.limit-limit.ensures ∙ ap (λ (b : Option Group). limit_of (best_in b).known (best_in b).squared) w.take_step.ensures.kept in
-          let new = w.offer.ensures.best ∙ ap (λ (b : Option Group). improved w.group_with.result w.max.result (best_in b)) w.take_step.ensures.kept in
+          let l = w.limit-limit.ensures ∙ ap (λ (b : Best). limit_of b.known b.squared) w.take_step.ensures.kept in
+          let new = w.offer.ensures.best ∙ ap (improved w.group_with.result w.max.result) w.take_step.ensures.kept in
           record {
             going = rw (w.p-is, w.offer.ensures.steps) (learnt z c.loop-k.k c.loop-k-test.true g h w.if-holds.true w.take_step.ensures.stepped w.if-not-take_step.false is l w.row_of-row.ensures c.requires.few.1 refl (omega arith) w.if-row-limit.true w.rest_of-others.ensures w.max.ensures (w.group_with.ensures ∙ ap (λ (s : Shape). padded (take c.args.w.now.m (set c.args.c.now.numbers c.args.top (get_or s.entries (c.open_at-o.result.first + c.loop-k.k) 0)))) (c.shape.view_is ∙ v)) new);
             rest = rw w.rest-is w.rest_of-others.ensures;
           })
       | then-holds+else-not-take_step+else-row-limit w ↦ (
           let is = place_box z c.loop-k.k c.loop-k-test.true n (w.box_at.ensures ∙ ap (λ (b : Sides). box_at b c.from-e.result) c.of_points-points.ensures) in
-          let l = w.limit-limit.ensures ∙ ap (λ (b : Option Group). limit_of (best_in b).known (best_in b).squared) w.take_step.ensures.kept in
+          let l = w.limit-limit.ensures ∙ ap (λ (b : Best). limit_of b.known b.squared) w.take_step.ensures.kept in
           record {
             going = rw (w.p-is, w.take_step.ensures.kept) (too_far z c.loop-k.k c.loop-k-test.true g h w.if-holds.true w.take_step.ensures.stepped w.if-not-take_step.false is l w.row_of-row.ensures w.row_of-row.type_inv w.if-row-limit.false);
             rest = rw w.rest-is c.loop-k.invariant.rest;

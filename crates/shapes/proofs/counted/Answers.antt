@@ -16,46 +16,40 @@ module _ {p nodes listed : ℕ} {l : Lengths} where
   holds h = holds_all (rule21 p nodes listed l) refl (λ _ _. h)
 
 pub returns-then-nodes-gt2048 : goal.returns-then-nodes-gt2048
-returns-then-nodes-gt2048 c = rw (← c.tree.view_is, ← c.shape.view_is) (breaks (λ h. omega (arith, h.few, c.if-nodes-gt2048.true)))
+returns-then-nodes-gt2048 c = breaks (λ h. omega (arith, h.few, c.if-nodes-gt2048.true))
 
 pub returns-then-places-ne0 : goal.returns-then-places-ne0
 returns-then-places-ne0 c =
-    rw (← c.tree.view_is, ← c.shape.view_is)
-    (breaks (λ h. ⊎_elim (λ w. w (h.empty.0 c.if-nodes-eq0.true)) (λ w. w.1 (omega (arith, h.all, c.if-nodes-eq0.true, w.0))) c.then-places-ne0.either))
+    breaks (λ h. ⊎_elim (λ w. w (h.empty.0 c.if-nodes-eq0.true)) (λ w. w.1 (omega (arith, h.all, c.if-nodes-eq0.true, w.0))) c.then-places-ne0.either)
 
 pub returns-then-places-eq0 : goal.returns-then-places-eq0
 returns-then-places-eq0 c =
     let ways = c.then-places-eq0.branch in
-    rw (← c.tree.view_is, ← c.shape.view_is)
-    (breaks
+    breaks
     (λ h.
     let due = h.all in
     elim ways [
       | then-places-eq0-via-then-places-eq0 w ↦ c.if-nodes-eq0.false (h.empty.1 w.if-places-eq0.true)
       | then-places-eq0-via-else-places-eq0+then-listed-places w ↦ w.if-listed-places.true due
-    ]))
+    ])
 
 pub returns-then-not-has_room : goal.returns-then-not-has_room
-returns-then-not-has_room c =
-    let room = rw (c.lengths.ensures, ← c.tree.view_is, ← c.shape.view_is) at c.has_room.ensures in
-    rw (← c.tree.view_is, ← c.shape.view_is) (breaks (λ h. room.fails c.if-not-has_room.true h.room))
+returns-then-not-has_room c = breaks (λ h. c.has_room.ensures.fails c.if-not-has_room.true h.room)
 
 pub returns : goal.returns
 returns c =
-    let room = rw (c.lengths.ensures, ← c.tree.view_is, ← c.shape.view_is) at c.has_room.ensures in
-    rw (← c.tree.view_is, ← c.shape.view_is)
-    (holds
+    holds
     (elim c.if-nodes-eq0.branch [
       | then-nodes-eq0+else-places-ne0+else-listed-ne0 w ↦ record {
         empty = (λ _. w.if-places-ne0.false, λ _. w.if-nodes-eq0.true);
         few = omega arith;
         all = omega (arith, w.if-places-ne0.false, w.if-nodes-eq0.true, w.if-listed-ne0.false);
-        room = room.holds c.if-not-has_room.false;
+        room = c.has_room.ensures.holds c.if-not-has_room.false;
       }
       | else-nodes-eq0+else-places-eq0+else-listed-places w ↦ record {
         empty = (λ e. absurd (w.if-nodes-eq0.false e), λ e. absurd (w.if-places-eq0.false e));
         few = omega arith;
         all = omega (arith, w.if-listed-places.false);
-        room = room.holds c.if-not-has_room.false;
+        room = c.has_room.ensures.holds c.if-not-has_room.false;
       }
-    ]))
+    ])

@@ -1,8 +1,8 @@
-use Rattle.std.proofs.Common.{◌∙◌, ap, subst, arith, get_or, Option, None, false, ℕ}
+use Rattle.std.proofs.Common.{◌∙◌, ap, subst, arith, get_or, false, ℕ, replicate}
 use Rattle.tree.specs.Tree.{Tree, Shape, box_at}
 use Rattle.walks.specs.Allowance.{stand}
-use Rattle.members.specs.declared.Group.{Group}
-use Rattle.members.specs.Best.{best_in}
+use Rattle.members.specs.declared.Best.{Best}
+use Rattle.members.specs.Best.{best_at}
 use Rattle.groups.specs.Members.{wanted, candidate}
 use Rattle.groups.specs.Opening.{Led}
 use Rattle.walk.proofs.RootLaws.{root_in, level_in, none_walked, roots_opened, roots_walked}
@@ -30,6 +30,6 @@ returns c =
     let level = ap (λ (s : Shape). get_or s.level 0 0) (c.shape.view_is ∙ ap (λ (t : Tree). t.shape) c.tree.view_is) in
     let box = c.box_at.ensures ∙ ap (λ (t : Tree). box_at t.sides 0) c.tree.view_is in
     let one = c.take_step.ensures.stepped.some c.if-not-take_step.false in
-    let led = subst (λ (b : Option Group). Led c.args.t.now c.args.tree.now (wanted c.args.w.now) c.args.w.now.allowance c.args.w.now.m (candidate c.args.w.now.m 0 (get_or c.shape.inside.level.now 0 0) c.alike-roots.result) 0 (stand c.take_step.new.self.steps false (best_in b)) (stand c.descend-spent.new.p.steps c.descend-spent.result (best_in c.descend-spent.new.p.best))) c.take_step.ensures.kept c.descend-spent.ensures in
-    let from = subst (λ (n : ℕ). Led c.args.t.now c.args.tree.now (wanted c.args.w.now) c.args.w.now.allowance c.args.w.now.m (candidate c.args.w.now.m 0 (get_or c.shape.inside.level.now 0 0) c.alike-roots.result) 0 (stand n false (best_in None)) (stand c.descend-spent.new.p.steps c.descend-spent.result (best_in c.descend-spent.new.p.best))) one.1 led in
+    let led = subst (λ (b : Best). Led c.args.t.now c.args.tree.now (wanted c.args.w.now) c.args.w.now.allowance c.args.w.now.m (candidate c.args.w.now.m 0 (get_or c.shape.inside.level.now 0 0) c.alike-roots.result) 0 (stand c.take_step.new.self.steps false b) (stand c.descend-spent.new.p.steps c.descend-spent.result c.descend-spent.new.p.best)) c.take_step.ensures.kept c.descend-spent.ensures in
+    let from = subst (λ (n : ℕ). Led c.args.t.now c.args.tree.now (wanted c.args.w.now) c.args.w.now.allowance c.args.w.now.m (candidate c.args.w.now.m 0 (get_or c.shape.inside.level.now 0 0) c.alike-roots.result) 0 (stand n false (best_at false 0 (replicate 8 0))) (stand c.descend-spent.new.p.steps c.descend-spent.result c.descend-spent.new.p.best)) one.1 led in
     roots_walked c.requires.passes c.args.w.now c.requires.few (omega arith) c.requires.begun level box c.alike-roots.ensures from one.0

@@ -13,7 +13,7 @@ returns-then-squared-apart_of c =
     let r = c.requires in
     let next = turn c.args.m (sides_of c.args.self.now) r.m_bound.0 c.args.i c.loop-k.k c.loop-k-test.true c.skipping.ensures c.box_at-c.ensures r.m_bound.1 in
     let e = sym c.loop-k.invariant ∙ beyond_here c.args.b _ _ next (omega (arith, c.apart_of.ensures, c.if-squared-apart_of.true)) in
-    rw (c.in-Some.is, e)
+    rw (c.if-not-best.false, e)
 
 pub loop-k-preserved : goal.loop-k-preserved
 loop-k-preserved c =
@@ -26,4 +26,4 @@ returns c =
     let r = c.requires in
     let done = others_done c.args.m (sides_of c.args.self.now) r.m_bound.0 c.args.i c.loop-k.k r.m_bound.1 (omega (arith, c.loop-k-test.false)) in
     let e = sym c.loop-k.invariant ∙ beyond_none c.args.b _ done in
-    rw (c.in-Some.is, e)
+    rw (c.if-not-best.false, e)

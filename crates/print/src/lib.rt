@@ -14,14 +14,16 @@ pub struct Page<'a> {
 }
 
 impl<'a> Page<'a> {
-    // Internal: a text after what is written.
+    // Internal: a text after what is written. By a loop: the library's copy asks for `memmove`, which a program in C may not have.
     pub fn put(&mut self, text: &[u8])
         requires { HasRoom self.old text.now }
         ensures { Wrote self.old text.now self.new }
     {
         let end = self.at + text.len();
         let out = &mut *self.out;
-        out[self.at..end].copy_from_slice(text);
+        for (i, byte) in text.iter().enumerate() {
+            out[self.at + i] = *byte;
+        }
         self.at = end;
     }
 

@@ -14,6 +14,7 @@ pub struct Page {
 }
 
 impl Page {
+    // Internal: a page with nothing on it.
     pub fn new() -> Page {
         Page {
             buffer: [0; BUFFER],
@@ -21,6 +22,7 @@ impl Page {
         }
     }
 
+    // Internal: a byte; a full buffer is written.
     pub fn put_byte(&mut self, b: u8) {
         self.buffer[self.to] = b;
         self.to += 1;
@@ -30,35 +32,38 @@ impl Page {
         }
     }
 
+    // Internal: a text.
     pub fn put(&mut self, text: &[u8]) {
         for b in text {
             self.put_byte(*b);
         }
     }
 
+    // Internal: a number in decimal.
     pub fn put_decimal(&mut self, n: u64) {
         let mut text = [0; 20];
         let k = io::decimal(n, &mut text);
         self.put(&text[..k]);
     }
 
+    // Internal: a number of a case.
     pub fn put_number<V: Value>(&mut self, number: V) {
         number.put(self);
     }
 
-    // A space and a number.
+    // Internal: a space and a number.
     pub fn put_next<V: Value>(&mut self, number: V) {
         self.put_byte(b' ');
         self.put_number(number);
     }
 
-    // The first two fields of most answers.
+    // Internal: the first two fields of most answers.
     pub fn put_verdict(&mut self, code: u8, at: usize) {
         self.put_number(code);
         self.put_next(at);
     }
 
-    // Writes what has not been written yet.
+    // Internal: writes what has not been written yet.
     pub fn flush(&mut self) {
         io::write_all(1, &self.buffer[..self.to]);
         self.to = 0;

@@ -5,7 +5,7 @@ ghost use Rattle.std.specs.Int.{w64, cast_unsigned};
 use crate::show::Page;
 use crate::words::BadCase;
 
-// A number of a case: the word that stands for it, and how it is printed.
+// Internal: a number of a case: the word that stands for it, and how it is printed.
 pub trait Value: Copy {
     ghost word_of: { Self → ℕ };
 
@@ -83,10 +83,15 @@ impl Value for i32 {
         Ok(i32::try_from(word.cast_signed())?)
     }
 
+    // As the library prints it, whose contract says what that is.
     fn put(self, page: &mut Page) {
-        if self < 0 {
-            page.put_byte(b'-');
-        }
-        page.put_decimal(u64::from(self.unsigned_abs()));
+        let mut text = [0; 21];
+        let mut lent = print::Page {
+            out: &mut text,
+            at: 0,
+        };
+        print::Value::put(self, &mut lent);
+        let n = lent.at;
+        page.put(&text[..n]);
     }
 }

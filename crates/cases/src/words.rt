@@ -17,7 +17,7 @@ impl From<TryFromIntError> for BadCase {
 }
 
 // The input, and how far it has come: its buffer is unread from `at` to `end`.
-#[derive(Drop)]
+#[derive(Clone, Copy)]
 pub struct Words {
     buffer: [u8; BUFFER],
     at: usize,
@@ -27,6 +27,7 @@ pub struct Words {
 }
 
 impl Words {
+    // Internal: the input, of which nothing is read yet.
     pub fn new() -> Words {
         Words {
             buffer: [0; BUFFER],
@@ -44,6 +45,7 @@ impl Words {
         self.end = io::read_full(0, &mut self.buffer);
     }
 
+    // Internal: whether all of the input was read.
     pub fn is_at_end(&mut self) -> bool {
         self.refill();
         self.at == self.end
@@ -58,12 +60,12 @@ impl Words {
         Ok(u64::from_le_bytes(word))
     }
 
-    // The next number.
+    // Internal: the next number.
     pub fn read<V: Value>(&mut self) -> Result<V, BadCase> {
         V::of_word(self.next()?)
     }
 
-    // The next number, where it is at most `most`.
+    // Internal: the next number, where it is at most `most`.
     pub fn read_within(&mut self, most: usize) -> Result<usize, BadCase>
         ensures { IfOk result (λ n. n ≤ most) }
     {

@@ -113,27 +113,17 @@ pub(crate) struct Case {
 }
 
 impl Case {
-    // A table with no tree yet.
+    // Columns for a table, with no places and no tree yet.
     pub(crate) fn new(places: usize) -> Case {
-        let mut x = [0; ROOM];
-        let mut y = [0; ROOM];
-        let mut kit = [0; ROOM];
-        let columns = x.iter_mut().zip(&mut y).zip(&mut kit);
-        for (p, ((x, y), kit)) in columns.take(places).enumerate() {
-            let place = place_at(places, p as u64);
-            *x = place.x;
-            *y = place.y;
-            *kit = place.kit;
-        }
         Case {
             places,
             y_lent: places,
             kits_lent: ROOM,
             nodes: 0,
             listed: 0,
-            x,
-            y,
-            kit,
+            x: [0; ROOM],
+            y: [0; ROOM],
+            kit: [0; ROOM],
             level: [0; ROOM],
             start: [0; ROOM],
             count: [0; ROOM],
@@ -143,6 +133,17 @@ impl Case {
             y_lo: [0; ROOM],
             y_hi: [0; ROOM],
             kits: [0; ROOM],
+        }
+    }
+
+    // The places of the table, put where the columns stand: columns that are made first and then moved would need their room twice.
+    pub(crate) fn strew(&mut self) {
+        let columns = self.x.iter_mut().zip(&mut self.y).zip(&mut self.kit);
+        for (p, ((x, y), kit)) in columns.take(self.places).enumerate() {
+            let place = place_at(self.places, p as u64);
+            *x = place.x;
+            *y = place.y;
+            *kit = place.kit;
         }
     }
 

@@ -10,6 +10,7 @@ mod show;
 // Builds the tree of a table, changes one thing, checks, and says what came out. A small tree that was not changed is shown whole.
 fn trial(places: usize, change: Option<Change>) {
     let mut case = Case::new(places);
+    case.strew();
     let built = case.build();
     put(b"places=", places as u64);
     let (code, nodes, listed) = match built {

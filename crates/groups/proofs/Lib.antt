@@ -11,3 +11,4 @@ pub mod ColumnLaws
 pub mod OpenLaws
 pub mod NextLaws
 pub mod LoopLaws
+pub mod UnknownLaws
